@@ -1,0 +1,11 @@
+pub mod Amd
+pub mod Bits
+pub mod Cells
+pub mod Chip
+pub mod Intel
+pub mod Look
+pub mod Power
+pub mod Ranges
+pub mod Steps
+pub mod Table
+pub mod Wiring

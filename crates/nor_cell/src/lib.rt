@@ -1,0 +1,25 @@
+//! A NOR flash chip as a model: what it is made of, what its command set does at each bus cycle,
+//! and what a loss of power leaves.
+//!
+//! The definitions of `specs/` are what every other crate is proved against:
+//! - `Chip`: the state of a chip. `Ranges`: what holds of every chip.
+//! - `Table`: what the query table offers, read straight from its bytes.
+//! - `Look`: how jobs run and end, for both sets. `Power`: what a cut leaves, and power-on.
+//! - `Intel` and `Amd`: the machines of sets 0001 and 0002. A read is a relation of the old state,
+//!   the answer and the new state, as cells may end in several ways; a write is a function.
+//! - `Steps`: a chip of either set at a cycle. `Wiring`: where a byte of a bank lies in its chips.
+//!
+//! The trait `Chip` is what a bus asks of a chip. It stands on nothing but the standard library.
+#![tactic(auto)]
+
+mod cells;
+mod chip;
+mod device;
+mod geometry;
+mod make;
+
+pub use cells::{CellParts, Cells, NoMemory};
+pub use chip::Chip;
+pub use device::{Device, Set, Span, SuspendKind, Work};
+pub use geometry::{BadGeometry, Geometry, make_geometry};
+pub use make::make_cells;
