@@ -1,0 +1,107 @@
+-- Cycles of a bus whose geometry is known.
+use Rattle.std.proofs.Common.{List, length, IsTrue, true, ◌==◌, ◌&&◌, ◌||◌, ◌≡◌, ◌<◌, ◌≤◌, ◌+◌, ◌-◌, ◌*◌, ℕ, zero, suc, replicate, slice_index, refl, sym, ap, subst, ◌∙◌, arith, Option, Some, None}
+use Rattle.nor_cell.specs.Bits.{unit_len}
+use Rattle.nor_cell.specs.Chip.{ChipState, Part}
+use Rattle.nor_cell.specs.Wiring.{is_wiring}
+use Rattle.nor_cell.specs.declared.geometry.Geometry.{Geometry}
+use Rattle.nor_cell.specs.declared.device.Device.{Device}
+use Rattle.nor_cell.specs.declared.device.Device.TheVariants.{X8, X16, X16Byte}
+use Rattle.nor_word.specs.Word.{lane_of}
+use Rattle.nor_bus.specs.declared.bus.Armed.{Armed}
+use Rattle.nor_bus.specs.Bus.{IsBank, BusState, lane, lanes_of, nearer, more, wide}
+use Rattle.nor_bus.specs.Cycles.{KeepsLanes, Passes, BusFails}
+use Rattle.nor_bus.specs.Driven.{IsOwn, Went, Lost, spread}
+
+pub keeps_then : (a b c : BusState) → KeepsLanes a b → KeepsLanes b c → KeepsLanes a c
+keeps_then a b c h k = record {
+  count = k.count ∙ h.count;
+  each = λ i below. let x = h.each i below in let y = k.each i (subst (λ (n : ℕ). i < n) (sym h.count) below) in record { part = y.part ∙ x.part; size = y.size ∙ x.size; locks = y.locks ∙ x.locks; bytes = λ small. y.bytes (x.bytes small) };
+}
+
+wired : (width lanes d : ℕ) → ((lanes == 1 || lanes == 2 || lanes == 4) && (width == lanes * d)) ≡ true → (0 < lanes) × (lanes ≤ 4) × (lanes * d ≡ width)
+wired width lanes d is = grind (arith, is)
+
+-- there is a lane, there are at most four, and they fill the word
+pub some_lane : (width : ℕ) (device : Device) (chips : List ChipState) → IsBank width device chips → 0 < length chips
+some_lane width device chips bank = (wired width (length chips) (unit_len device) bank.wiring).0
+
+pub few_lanes : (width : ℕ) (device : Device) (chips : List ChipState) → IsBank width device chips → length chips ≤ 4
+few_lanes width device chips bank = (wired width (length chips) (unit_len device) bank.wiring).1
+
+pub fills_word : (width : ℕ) (device : Device) (chips : List ChipState) → IsBank width device chips → length chips * unit_len device ≡ width
+fills_word width device chips bank = (wired width (length chips) (unit_len device) bank.wiring).2
+
+-- A bank stays one.
+pub bank_kept : (width : ℕ) (device : Device) (a b : BusState) → KeepsLanes a b → IsBank width device a.lanes → IsBank width device b.lanes
+bank_kept width device a b h bank =
+    let moved = λ (c : ℕ) (below : c < lanes_of b). subst (λ (n : ℕ). c < n) h.count below in
+    let first : 0 < lanes_of a = some_lane width device a.lanes bank in
+    record {
+      wiring = subst (λ (n : ℕ). IsTrue (is_wiring width n device)) (sym h.count) bank.wiring;
+      devices = λ c below. ap (λ (p : Part). p.device) (h.each c (moved c below)).part ∙ bank.devices c (moved c below);
+      sizes = λ c below. (h.each c (moved c below)).size ∙ (bank.sizes c (moved c below) ∙ sym (h.each 0 first).size);
+    }
+
+-- A geometry stays the bus's own.
+pub own_kept : (width : ℕ) (g : Geometry) (a b : BusState) → KeepsLanes a b → IsOwn width g a → IsOwn width g b
+own_kept width g a b h own = record { bank = bank_kept width g.device a b h own.bank; count = h.count ∙ own.count }
+
+-- one cycle
+pub went_one : (a b : BusState) → Passes a b → KeepsLanes a b → Went 1 1 a b
+went_one a b p k = record { made = 1; enough = omega arith; few = omega arith; power = p.power; armed = p.armed; cycles = p.cycles; failed = p.failed; kept = k }
+
+nearer_then : (m n : ℕ) (armed : Option Armed) → nearer n (nearer m armed) ≡ nearer (m + n) armed
+nearer_then m n None = refl
+nearer_then m n (Some armed) = let e : armed.after - m - n ≡ armed.after - (m + n) = omega arith in ap (λ (k : ℕ). Some (record armed { after = k })) e
+
+more_then : (m n count : ℕ) → more n (more m count) ≡ more (m + n) count
+more_then m n count = omega arith
+
+-- some cycles, and then some more
+pub went_then : (l m n o k q : ℕ) (a b c : BusState) → k ≤ l + n → m + o ≤ q → Went l m a b → Went n o b c → Went k q a c
+went_then l m n o k q a b c ge le x y = record {
+  made = x.made + y.made;
+  enough = let p : l ≤ x.made = x.enough in let r : n ≤ y.made = y.enough in omega arith;
+  few = let p : x.made ≤ m = x.few in let r : y.made ≤ o = y.few in omega arith;
+  power = y.power;
+  armed = y.armed ∙ (ap (nearer y.made) x.armed ∙ nearer_then x.made y.made a.armed);
+  cycles = y.cycles ∙ (ap (more y.made) x.cycles ∙ more_then x.made y.made a.cycles);
+  failed = y.failed ∙ x.failed;
+  kept = keeps_then a b c x.kept y.kept;
+}
+
+-- the first cycle failed
+pub lost_one : (a b : BusState) → BusFails a b → KeepsLanes a b → Lost 1 a b
+lost_one a b f k = record { few = let e : b.cycles ≡ a.cycles = f.cycles in omega arith; power = f.power; failed = f.failed; kept = k }
+
+-- Power went after some cycles.
+pub lost_then : (l m o q : ℕ) (a b c : BusState) → m + o ≤ q → Went l m a b → Lost o b c → Lost q a c
+lost_then l m o q a b c le w x = record {
+  few = let p : w.made ≤ m = w.few in let e : b.cycles ≡ more w.made a.cycles = w.cycles in let r : c.cycles < b.cycles + o = x.few in omega arith;
+  power = x.power;
+  failed = subst (λ (n : ℕ). more 1 n ≤ c.failed) w.failed x.failed;
+  kept = keeps_then a b c w.kept x.kept;
+}
+
+-- how many bytes of the word a lane takes
+pub device_of : (width : ℕ) (device : Device) (bus : BusState) (c : ℕ) → IsBank width device bus.lanes → c < lanes_of bus → wide (lane bus c) ≡ unit_len device
+device_of width device bus c bank below = ap unit_len (bank.devices c below)
+
+index_replicate : (n k v : ℕ) → k < n → slice_index (replicate n v) k ≡ v
+index_replicate zero k v h = absurd (omega arith)
+index_replicate (suc n) zero v h = refl
+index_replicate (suc n) (suc k) v h = index_replicate n k v (omega arith)
+
+-- a lane of a word that has one byte everywhere
+splat_lane : (device : Device) (n lanes c v : ℕ) → c < lanes → lanes * unit_len device ≡ n → lane_of (unit_len device) (replicate n v) c ≡ spread (unit_len device) v
+splat_lane X8 n lanes c v below e = index_replicate n c v (omega arith)
+splat_lane X16Byte n lanes c v below e = index_replicate n c v (omega arith)
+splat_lane X16 n lanes c v below e =
+    let a = index_replicate n (2 * c) v (omega arith) in
+    let b = index_replicate n (2 * c + 1) v (omega arith) in
+    rw (a, b) refl
+
+-- each lane's part of a word that has one byte everywhere
+pub splat_there : (width : ℕ) (device : Device) (bus : BusState) (c v : ℕ) → IsBank width device bus.lanes → c < lanes_of bus → lane_of (wide (lane bus c)) (replicate width v) c ≡ spread (wide (lane bus c)) v
+splat_there width device bus c v bank below =
+    rw (device_of width device bus c bank below) (splat_lane device width (lanes_of bus) c v below (fills_word width device bus.lanes bank))

@@ -1,0 +1,11 @@
+use Rattle.std.proofs.Common.{◌≡◌, ◌<◌, ℕ, List, OnOk, subst, sym}
+use Rattle.nor_cell.specs.Steps.{Reads, written}
+use Rattle.nor_word.specs.Word.{lane_of}
+use Rattle.nor_bus.specs.Bus.{units_of, lane, lanes_of, wide}
+use Rattle.nor_bus.proofs.driven.write_word.Goals as goal
+
+pub returns-clause-lanes : goal.returns-clause-lanes
+returns-clause-lanes g c = λ below k there.
+    let old = g.B.Bus.state c.args.bus.now in
+    let new = g.B.Bus.state c.write.new.self in
+    subst (λ (u : ℕ). lane new k ≡ written (lane old k) u (lane_of (wide (lane old k)) (g.W.BusWord.bytes c.args.word) k)) (c.wrapped-there.ensures.same below) (c.in_ok-write.ensures.writes.each k there)

@@ -1,0 +1,2 @@
+pub mod Anding
+pub mod Within
