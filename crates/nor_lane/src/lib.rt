@@ -1,0 +1,6 @@
+//! Lanes and places.
+#![tactic(auto)]
+
+mod wirings;
+
+pub use wirings::candidates;
