@@ -1,7 +1,8 @@
-ghost use Rattle.std.proofs.Common.{lit≤};
+ghost use Rattle.std.proofs.Common.{lit≤, refl};
 ghost use Rattle.std.specs.Prelude.{◌≡◌, ◌<◌, ◌≤◌, ◌↔◌, ℕ, List, IsTrue, length, slice_index, slice_set, replicate, bit_and};
 ghost use Rattle.std.specs.Int.{w8, w16, w32, w64, to_le_bytes};
 ghost use Rattle.nor_word.specs.LowBytes.{size_of_bytes, small_bytes};
+ghost use Rattle.nor_word.specs.Word.{is_width};
 
 /// A word of the bus, seen as its bytes, the lowest first.
 pub trait BusWord: Copy + Eq + Drop {
@@ -31,6 +32,8 @@ pub trait BusWord: Copy + Eq + Drop {
         ensures { IsTrue result ↔ (bytes self ≡ bytes other) };
 
     ghost wide: { (w : Self) → length (bytes w) ≡ WIDTH };
+
+    ghost sized: { IsTrue (is_width WIDTH) };
 
     ghost narrow: { WIDTH ≤ 8 };
 
@@ -75,6 +78,8 @@ impl BusWord for u8 {
 
     ghost wide = { size_of_bytes 0 1 };
 
+    ghost sized = { refl };
+
     ghost narrow = { lit≤ tt };
 
     ghost small = { small_bytes 0 1 };
@@ -106,6 +111,8 @@ impl BusWord for u16 {
     }
 
     ghost wide = { size_of_bytes 0 2 };
+
+    ghost sized = { refl };
 
     ghost narrow = { lit≤ tt };
 
@@ -139,6 +146,8 @@ impl BusWord for u32 {
 
     ghost wide = { size_of_bytes 0 4 };
 
+    ghost sized = { refl };
+
     ghost narrow = { lit≤ tt };
 
     ghost small = { small_bytes 0 4 };
@@ -170,6 +179,8 @@ impl BusWord for u64 {
     }
 
     ghost wide = { size_of_bytes 0 8 };
+
+    ghost sized = { refl };
 
     ghost narrow = { lit≤ tt };
 

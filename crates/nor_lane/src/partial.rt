@@ -1,0 +1,20 @@
+ghost use Rattle.std.specs.Prelude.{◌≡◌, ◌<◌, ◌≤◌, ◌+◌, ℕ, length, slice_index};
+
+use nor_word::BusWord;
+
+/// What an erased byte reads, and what leaves a byte as it is where it is programmed.
+const ERASED: u8 = 0xff;
+
+/// The word that has the bytes from place `first` on, and 0xFF elsewhere.
+pub fn pad<W: BusWord>(first: u8, bytes: &[u8]) -> W
+    requires { first + length bytes.now ≤ W.WIDTH }
+    ensures there { (k : ℕ) → k < length bytes.now → slice_index (W.bytes result) (first + k) ≡ slice_index bytes.now k }
+    ensures before { (k : ℕ) → k < first → slice_index (W.bytes result) k ≡ ERASED }
+    ensures after { (k : ℕ) → first + length bytes.now ≤ k → k < W.WIDTH → slice_index (W.bytes result) k ≡ ERASED }
+{
+    let mut word = W::splat(ERASED);
+    for (k, byte) in bytes.iter().enumerate() {
+        word = word.with_byte(first + k as u8, *byte);
+    }
+    word
+}
