@@ -1,5 +1,5 @@
 -- One chip that is asked, and the word of several.
-use Rattle.std.proofs.Common.{◌≡◌, ◌<◌, ◌≤◌, ◌+◌, ◌*◌, ◌%◌, ◌==◌, ℕ, List, length, slice_index, refl, sym, ap, subst, ◌∙◌, arith, if◌then◌else◌, Bool, true, false, ◌⊎◌, inl, inr}
+use Rattle.std.proofs.Common.{Result, Ok, Err, OnErr, ◌≡◌, ◌<◌, ◌≤◌, ◌+◌, ◌*◌, ◌%◌, ◌==◌, ℕ, List, length, slice_index, refl, sym, ap, subst, ◌∙◌, arith, if◌then◌else◌, Bool, true, false, ◌⊎◌, inl, inr}
 use Rattle.nor_cell.specs.Bits.{unit_len, AreBytes}
 use Rattle.nor_cell.specs.Chip.{ChipState, Query}
 use Rattle.nor_cell.specs.Resting.{IsResting, IsShown, reset}
@@ -53,3 +53,8 @@ query_is width bus new u word wired shows size small reads =
         let is = shows c below in
         let answer : lane_of (wide (lane bus c)) word c ≡ query_at (lane bus c).part u = (reads_query (lane bus c) (lane new c) u _ is.mode is.job is.fault (reads c below)).1 in
         subst (λ (d : ℕ). lane_of d word c ≡ query_at (lane bus c).part u) (ap unit_len (bank.devices c below)) answer)
+
+-- a fact after an error
+pub on_err : {T E : Type 0} (r : Result T E) (P : Type 0) → P → OnErr r P
+on_err (Ok x) P p = tt
+on_err (Err e) P p = p

@@ -24,3 +24,7 @@ pub record ShowsQuery (s : ChipState) : Type 0 where
 -- a chip that shows its query table stayed as it was
 abbrev pub Stays : ChipState → ChipState → Type 0
 Stays s t = ShowsQuery s → t ≡ s
+
+-- a chip that rests goes on resting, and a reset leads it to the same
+abbrev pub Rests : ChipState → ChipState → Type 0
+Rests s t = IsResting s → IsResting t × (reset t ≡ reset s)

@@ -11,5 +11,6 @@
 
 mod asking;
 mod find;
+mod showing;
 
 pub use find::{FindError, find_geometry};
