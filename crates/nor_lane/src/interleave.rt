@@ -1,4 +1,4 @@
-ghost use Rattle.std.specs.Prelude.{◌≡◌, ◌<◌, ◌*◌, ◌^◌, ◌↔◌, ℕ, IsTrue};
+ghost use Rattle.std.specs.Prelude.{◌≡◌, ◌<◌, ◌*◌, ◌^◌, ℕ, IsTrue};
 ghost use Rattle.nor_cell.specs.Bits.{unit_len};
 ghost use Rattle.nor_cell.specs.Wiring.{bank_place, lane_at, place_at};
 ghost use Rattle.nor_lane.specs.Candidates.{is_geometry};
