@@ -1,11 +1,12 @@
-ghost use Rattle.std.specs.Prelude.{◌≡◌, ◌<◌, ◌*◌, ◌^◌, ◌↔◌, ℕ, IsTrue};
+ghost use Rattle.std.specs.Prelude.{◌≡◌, ◌<◌, ◌*◌, ◌^◌, ℕ, IsTrue};
 ghost use Rattle.nor_cell.specs.Bits.{unit_len};
 ghost use Rattle.nor_cell.specs.Wiring.{bank_place, lane_at, place_at};
 ghost use Rattle.nor_lane.specs.Candidates.{is_geometry};
 
 use nor_cell::{Device, Geometry};
 
-/// The lane and the byte of its chip at which byte `at` of a bank lies. Chips have at most 2^27 bytes.
+/// The lane, and the byte of its chip, at which byte `at` of a bank lies. The geometry is one of the
+/// nine wirings, and its chips have at most 2^27 bytes each.
 pub fn split(g: Geometry, at: u32) -> (u8, u32)
     requires wiring { IsTrue (is_geometry g) }
     requires within { at < 2 ^ 27 * g.lanes }
@@ -14,7 +15,7 @@ pub fn split(g: Geometry, at: u32) -> (u8, u32)
     ensures lane_within { result.0 < g.lanes }
     ensures place_within { result.1 < 2 ^ 27 }
 
-    // The byte is this byte of this chip, and no other.
+    // Byte `at` of the bank is this byte of this chip, and no other byte of any chip.
     ensures there { bank_place g.lanes (unit_len g.device) result.0 result.1 ≡ at }
     ensures alone { (c p : ℕ) → c < g.lanes → bank_place g.lanes (unit_len g.device) c p ≡ at → (c ≡ result.0) × (p ≡ result.1) }
 {
@@ -25,14 +26,16 @@ pub fn split(g: Geometry, at: u32) -> (u8, u32)
     (lane as u8, place)
 }
 
-/// The byte of the bank that byte `place` of a lane's chip is: what `split` splits.
+/// The byte of the bank that byte `place` of a lane's chip is: the inverse of [`split`]. The geometry
+/// is one of the nine wirings, and its chips have at most 2^27 bytes each.
 pub fn join(g: Geometry, lane: u8, place: u32) -> u32
     requires wiring { IsTrue (is_geometry g) }
     requires lane { lane < g.lanes }
     requires place { place < 2 ^ 27 }
     ensures there { result ≡ bank_place g.lanes (unit_len g.device) lane place }
     ensures within { result < 2 ^ 27 * g.lanes }
-    ensures back { (lane_at g.lanes (unit_len g.device) result ≡ lane) × (place_at g.lanes (unit_len g.device) result ≡ place) }
+    ensures lane_back { lane_at g.lanes (unit_len g.device) result ≡ lane }
+    ensures place_back { place_at g.lanes (unit_len g.device) result ≡ place }
 {
     let unit = unit_bytes(g.device);
     let lanes = u32::from(g.lanes);

@@ -2,10 +2,11 @@ ghost use Rattle.std.specs.Prelude.{◌≡◌, ◌<◌, ◌≤◌, ◌+◌, ℕ,
 
 use nor_word::BusWord;
 
-/// What an erased byte reads, and what leaves a byte as it is where it is programmed.
+// Programming only clears bits, so this leaves a byte as it is.
 const ERASED: u8 = 0xff;
 
-/// The word that has the bytes from place `first` on, and 0xFF elsewhere.
+/// The word that has the bytes from its byte `first` on, and 0xFF elsewhere, so that programming it
+/// changes no other byte. The bytes lie within the word.
 pub fn pad<W: BusWord>(first: u8, bytes: &[u8]) -> W
     requires { first + length bytes.now ≤ W.WIDTH }
     ensures there { (k : ℕ) → k < length bytes.now → slice_index (W.bytes result) (first + k) ≡ slice_index bytes.now k }

@@ -5,6 +5,9 @@ ghost use Rattle.nor_word.specs.LowBytes.{size_of_bytes, small_bytes};
 ghost use Rattle.nor_word.specs.Word.{is_width};
 
 /// A word of the bus, seen as its bytes, the lowest first.
+///
+/// [`equals`](BusWord::equals) is how the trait says that two words are the same exactly where all
+/// their bytes are. [`and`](BusWord::and) is written and proved once, for every width.
 pub trait BusWord: Copy + Eq + Drop {
     ghost bytes: { Self → List ℕ };
 
