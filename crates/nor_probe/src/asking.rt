@@ -1,6 +1,6 @@
 ghost use Rattle.std.specs.Prelude.{◌≡◌, ◌<◌, ◌≤◌, IfOk, OnOk, OnErr};
 ghost use Rattle.nor_cell.specs.Resting.{IsResting};
-ghost use Rattle.nor_bus.specs.Bus.{units_of};
+ghost use Rattle.nor_bus.specs.Bus.{units_of, IsWired};
 ghost use Rattle.nor_bus.specs.Driven.{Went, Lost, EachLane, AllLanes};
 ghost use Rattle.nor_bus.specs.Words.{query_word};
 ghost use Rattle.nor_probe.specs.Asking.{Resets, Enters, Asks, ShowsQuery, Stays};
@@ -49,6 +49,7 @@ pub fn read_query<W: BusWord, B: Bus<W>>(bus: &mut B, at: u32) -> Result<W, Off>
     ensures word { IfOk result (λ word. at < units_of (B.state bus.old) → AllLanes ShowsQuery (B.state bus.old) → W.bytes word ≡ query_word (B.state bus.old).lanes at) }
     ensures lost { OnErr result (Lost 1 (B.state bus.old) (B.state bus.new)) }
     ensures units { units_of (B.state bus.new) ≡ units_of (B.state bus.old) }
+    ensures wired { IsWired W.WIDTH (B.state bus.old) }
 {
     let word = read_word::<W, B>(bus, at)?;
     Ok(word)
