@@ -6,6 +6,7 @@ pub mod Intel
 pub mod Look
 pub mod Power
 pub mod Ranges
+pub mod Simulated
 pub mod Steps
 pub mod Table
 pub mod Wiring

@@ -12,14 +12,24 @@
 //! The trait `Chip` is what a bus asks of a chip. It stands on nothing but the standard library.
 #![tactic(auto)]
 
+mod bits;
+mod blocks;
 mod cells;
 mod chip;
 mod device;
+mod ends;
 mod geometry;
 mod make;
+mod table;
 
+pub use bits::{is_between, unit_len};
+pub use blocks::{all_blocks, block, block_at};
 pub use cells::{CellParts, Cells, NoMemory};
 pub use chip::Chip;
 pub use device::{Device, Set, Span, SuspendKind, Work};
 pub use geometry::{BadGeometry, Geometry, make_geometry};
 pub use make::make_cells;
+pub use table::{
+    buffer_units, can_program_suspended, can_suspend, has_locks, left_at_start, set_of,
+    suspend_kind,
+};
