@@ -1,3 +1,4 @@
 pub mod Breaking
 pub mod Changing
+pub mod Cutting
 pub mod Spans

@@ -62,35 +62,6 @@ pub block_inside : (size : ℕ) (blocks : List Span) (b : ℕ) (d : Span) → Is
 block_inside size [] b d h lt = absurd (omega arith)
 block_inside size (span ∷ blocks) b d h lt = let e = ends_between size 0 (span ∷ blocks) b d h lt in e.1
 
--- the first element passes, or the search goes on behind it
-position_step : {X : Type 0} (test : X → Bool) (x : X) (xs : List X) → position_or_len test (x ∷ xs) ≡ cond (test x) 0 (1 + position_or_len test xs)
-position_step test x xs = go (test x) refl
-  where
-    go : (b : Bool) → test x ≡ b → position_or_len test (x ∷ xs) ≡ cond b 0 (1 + position_or_len test xs)
-    go true e = rw e refl
-    go false e = rw e (omega arith)
-
-found_from : (end from p : ℕ) (spans : List Span) → follow_to end from spans ≡ true → from ≤ p → p < end →
-    position_or_len (λ span. nat_lt p (span_end span)) spans < length spans
-found_from end from p [] h le lt = let e = same_number from end h in absurd (omega arith)
-found_from end from p (span ∷ spans) h le lt =
-    let f = first_follows end from span spans h in
-    rw (position_step (λ span. nat_lt p (span_end span)) span spans)
-    (go (nat_lt p (span_end span)) refl f.0 (λ high. found_from end (from + span.len) p spans f.1 high lt))
-  where
-    go : (b : Bool) → nat_lt p (span_end span) ≡ b → span.from ≡ from →
-        (from + span.len ≤ p → position_or_len (λ span. nat_lt p (span_end span)) spans < length spans) →
-        cond b 0 (1 + position_or_len (λ span. nat_lt p (span_end span)) spans) < length (span ∷ spans)
-    go true e s rest = omega arith
-    go false e s rest =
-        let high : from + span.len ≤ p = grind (arith, nat_tests) in
-        let found = rest high in omega arith
-
--- each place of a chip that has blocks lies in one of them
-pub block_found : (size p : ℕ) (blocks : List Span) → IsTrue (are_blocks size blocks) → has_blocks blocks ≡ true → p < size → block_at blocks p < length blocks
-block_found size p [] h some lt = cc
-block_found size p (span ∷ blocks) h some lt = found_from size 0 p (span ∷ blocks) h (omega arith) lt
-
 -- the last block ends where the chip does
 end_from : (end from : ℕ) (span : Span) (spans : List Span) → follow_to end from (span ∷ spans) ≡ true → blocks_end (span ∷ spans) ≡ end
 end_from end from span [] h =

@@ -4,6 +4,7 @@ pub mod Cells
 pub mod Chip
 pub mod Intel
 pub mod Look
+pub mod Machine
 pub mod Power
 pub mod Ranges
 pub mod Simulated

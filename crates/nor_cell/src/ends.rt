@@ -1,7 +1,7 @@
 //! What the simulated chips do to their cells at the end of a job, and when power is lost in it.
-ghost use Rattle.std.specs.Prelude.{◌≡◌, ◌+◌, ◌-◌, ◌<◌, ◌≤◌, ◌^◌, ℕ, true, length, slice_index, bit_and, bit_or, is_some, unwrap_or, IfSome};
-ghost use Rattle.nor_cell.specs.Bits.{IsBetween, ChangesWithin};
-ghost use Rattle.nor_cell.specs.Chip.{span_end};
+ghost use Rattle.std.specs.Prelude.{◌≡◌, ◌+◌, ◌-◌, ◌<◌, ◌≤◌, ◌^◌, ℕ, true, false, length, slice_index, bit_and, bit_or, is_some, unwrap_or, IfSome};
+ghost use Rattle.nor_cell.specs.Bits.{IsBetween, ChangesWithin, AreBytes};
+ghost use Rattle.nor_cell.specs.Chip.{span_end, is_within};
 ghost use Rattle.nor_cell.specs.Look.{breaks, would_change, break_of, Programmed, is_weak, Erased};
 ghost use Rattle.nor_cell.specs.Simulated.{TornProgram, TornErase};
 
@@ -37,7 +37,10 @@ pub(crate) fn store_partly(cells: &mut [u8], at: usize, bytes: &[u8], mask: u8)
 /// Sets the bits of the mask in each byte of a span.
 pub(crate) fn set_bits(cells: &mut [u8], span: Span, mask: u8)
     requires { span_end span ≤ length cells.old }
-    ensures { ChangesWithin span.from (span_end span) (λ p x. x ≡ bit_or (slice_index cells.old p) mask) cells.old cells.new }
+    ensures range { ChangesWithin span.from (span_end span) (λ p x. x ≡ bit_or (slice_index cells.old p) mask) cells.old cells.new }
+    ensures bytes { AreBytes cells.new }
+    ensures inside { (p : ℕ) → is_within span p ≡ true → slice_index cells.new p ≡ bit_or (slice_index cells.old p) mask }
+    ensures outside { (p : ℕ) → is_within span p ≡ false → slice_index cells.new p ≡ slice_index cells.old p }
 {
     for p in span.from as usize..span.from as usize + span.len as usize {
         cells[p] |= mask;

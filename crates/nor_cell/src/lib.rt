@@ -19,16 +19,22 @@ mod chip;
 mod device;
 mod ends;
 mod geometry;
+mod machine;
 mod make;
+mod state;
 mod table;
 
 pub use bits::{is_between, unit_len};
-pub use blocks::{all_blocks, block, block_at};
+
 pub use cells::{CellParts, Cells, NoMemory};
 pub use chip::Chip;
 pub use device::{Device, Set, Span, SuspendKind, Work};
 pub use geometry::{BadGeometry, Geometry, make_geometry};
+pub use machine::Machine;
 pub use make::make_cells;
+pub use state::{
+    EraseTarget, Failure, HeldErase, NextStep, RunningJob, ShownMode, StatusFlags,
+};
 pub use table::{
     buffer_units, can_program_suspended, can_suspend, has_locks, left_at_start, set_of,
     suspend_kind,

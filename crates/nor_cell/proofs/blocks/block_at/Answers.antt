@@ -6,7 +6,7 @@ use Rattle.std.proofs.lemmas.List.Sorted.{IsPartitionedBy-leb}
 use Rattle.std.proofs.lemmas.List.Sums.{position_or_len_is}
 use Rattle.nor_cell.specs.Chip.{block_at, span_end, no_span}
 use Rattle.nor_cell.specs.declared.device.Span.{Span}
-use Rattle.nor_cell.proofs.Spans.{ends_rise, block_found}
+use Rattle.nor_cell.proofs.Spans.{ends_rise}
 use Rattle.nor_cell.proofs.blocks.block_at.Goals as goal
 
 ends_by : (p : ℕ) (span : Span) → leb (span_end span) p ≡ true → nat_lt p (span_end span) ≡ false
@@ -23,16 +23,11 @@ point_is blocks p i le h =
     (λ k lt. ends_by p (get_or blocks k no_span) (h.0 k no_span (omega arith) lt))
     (λ lt. ends_after p (get_or blocks i no_span) (h.1 i no_span (omega arith) lt)))
 
-pub returns-clause-number : goal.returns-clause-number
-returns-clause-number c =
+pub returns : goal.returns
+returns c =
     let z = c.args.cells.now in
     let same : c.as_slice.result.now ≡ z.blocks.items = c.as_slice.ensures.value in
     let rise = subst (λ (l : List Span). (i j : ℕ) (d : Span) → i ≤ j → j < length l → span_end (get_or l i d) ≤ span_end (get_or l j d)) (sym same) (ends_rise _ z.blocks.items z.follow) in
     let point = c.partition_point.ensures.partitioned (λ span. leb (span_end span) c.args.place) (always_returns_same _ _ _ (λ a r f k. search (rules, of_calls)))
     (IsPartitionedBy-leb span_end c.as_slice.result.now c.args.place rise) in
     rw (sym same) (point_is c.as_slice.result.now c.args.place c.partition_point.result c.partition_point.ensures.bound point)
-
-pub returns-clause-known : goal.returns-clause-known
-returns-clause-known c =
-    let z = c.args.cells.now in
-    λ some lt. rw (returns-clause-number c) (block_found (length z.bytes.items) c.args.place z.blocks.items z.follow some lt)

@@ -10,4 +10,4 @@ returns-clause-cells c =
     (elim c.if-broke.branch [ then-broke w ↦ omega (arith, w.set_bits-is) | else-broke w ↦ omega (arith, w.set_bits-is) ])
     (λ free. elim c.if-broke.branch [ then-broke w ↦ cc | else-broke w ↦ w.set_bits-is ])
     (λ p. search rules)
-    c.set_bits.ensures
+    c.set_bits.ensures.range
