@@ -14,7 +14,8 @@ both_pass true true h = (refl, refl)
 both_pass true false h = cc
 both_pass false b h = cc
 
-same_number : (a b : ℕ) → (a == b) ≡ true → a ≡ b
+-- a test of two numbers
+pub same_number : (a b : ℕ) → (a == b) ≡ true → a ≡ b
 same_number a b h = grind (arith, nat_tests)
 
 -- the first span begins where it should, and the others follow

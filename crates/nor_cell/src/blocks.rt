@@ -18,7 +18,7 @@ pub(crate) fn block_at(cells: &Cells, place: u32) -> usize
 }
 
 /// Where a block lies. A block that isn't there has no bytes.
-pub(crate) fn block(cells: &Cells, number: usize) -> Span
+pub fn block(cells: &Cells, number: usize) -> Span
     ensures span { result ≡ block cells.now.blocks.items number }
     ensures inside { span_end result ≤ length cells.now.bytes.items }
 {

@@ -19,19 +19,22 @@ mod chip;
 mod device;
 mod ends;
 mod geometry;
+mod loads;
 mod machine;
 mod make;
+mod reads;
 mod state;
 mod table;
 
 pub use bits::{is_between, unit_len};
-
+pub use blocks::block;
 pub use cells::{CellParts, Cells, NoMemory};
 pub use chip::Chip;
 pub use device::{Device, Set, Span, SuspendKind, Work};
 pub use geometry::{BadGeometry, Geometry, make_geometry};
 pub use machine::Machine;
 pub use make::make_cells;
+pub use reads::register;
 pub use state::{
     EraseTarget, Failure, HeldErase, NextStep, RunningJob, ShownMode, StatusFlags,
 };

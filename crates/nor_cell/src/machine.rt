@@ -7,6 +7,7 @@ ghost use Rattle.nor_cell.specs.Look.{look, looked, LooksTo, suspended, resumed}
 ghost use Rattle.nor_cell.specs.Machine.{target_of, erase_started};
 ghost use Rattle.nor_cell.specs.Power.{Cuts, powered};
 ghost use Rattle.nor_cell.specs.Simulated.{CutsBy, CutsHeld, CutsJob, LeavesBroken};
+ghost use Rattle.nor_cell.specs.Steps.{Keeps};
 
 use crate::bits::unit_len;
 use crate::blocks::{block, covered};
@@ -74,6 +75,16 @@ impl Machine {
 
     /// What a read does first: a job goes on, or ends.
     pub fn look(&mut self)
+        ensures cells { LooksTo self.old (look self.old) self.new.cells }
+        ensures rest { self.new ≡ record (looked (look self.old) self.old) { cells = self.new.cells } }
+        ensures broken { LeavesBroken self.old (look self.old) self.new.cells }
+        ensures kept { Keeps self.old self.new }
+    {
+        self.go_on();
+    }
+
+    // The job goes on, or ends.
+    fn go_on(&mut self)
         ensures cells { LooksTo self.old (look self.old) self.new.cells }
         ensures rest { self.new ≡ record (looked (look self.old) self.old) { cells = self.new.cells } }
         ensures broken { LeavesBroken self.old (look self.old) self.new.cells }
@@ -238,6 +249,7 @@ impl Machine {
     pub fn cut(&mut self, mask: u8)
         ensures step { Cuts self.old self.new }
         ensures left { CutsBy mask self.old self.new }
+        ensures kept { Keeps self.old self.new }
     {
         self.cut_job(mask);
         self.cut_held(mask);
