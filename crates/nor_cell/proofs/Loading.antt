@@ -78,6 +78,9 @@ load_inside s b missing first load u v size h lt =
 pub load_short : (d : Device) (v : ℕ) (load : List ℕ) (missing : ℕ) → length load + unit_len d * missing ≤ 512 → 0 < missing → length (load ++ unit_bytes d v) + unit_len d * (missing - 1) ≤ 512
 load_short d v load missing h some = omega (arith, length-append load (unit_bytes d v), length-unit_bytes d v, room_left d (length load) missing h some)
 
+pub load_some : (d : Device) (v : ℕ) (load : List ℕ) → unit_len d ≤ length (load ++ unit_bytes d v)
+load_some d v load = omega (arith, length-append load (unit_bytes d v), length-unit_bytes d v)
+
 -- ---- the state with one more unit
 
 -- a machine at rest whose load and step change

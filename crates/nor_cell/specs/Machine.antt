@@ -99,13 +99,18 @@ pub record LoadFits (missing first : ℕ) (load : List ℕ) (cells : Cells) : Ty
   pub some : 0 < missing
   pub room : 0 < buffer_units cells.device cells.table
 
+-- A load that waits for its confirm lies in the cells, and has a unit at least.
+pub record LoadIsWhole (first : ℕ) (load : List ℕ) (cells : Cells) : Type 0 where
+  pub inside : unit_len cells.device * first + length load ≤ length cells.bytes.items
+  pub some : unit_len cells.device ≤ length load
+
 abbrev pub StepFits : NextStep → List ℕ → Cells → Type 0
 StepFits RestNow load cells = Unit {0}
 StepFits ProgramNow load cells = Unit {0}
 StepFits LockNow load cells = Unit {0}
 StepFits (CountNow b) load cells = Unit {0}
 StepFits (DataNow b missing first) load cells = LoadFits missing first load cells
-StepFits (ConfirmNow first) load cells = unit_len cells.device * first + length load ≤ length cells.bytes.items
+StepFits (ConfirmNow first) load cells = LoadIsWhole first load cells
 StepFits EraseNow load cells = Unit {0}
 StepFits Unlock1 load cells = Unit {0}
 StepFits Unlock2 load cells = Unit {0}

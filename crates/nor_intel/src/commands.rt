@@ -73,11 +73,6 @@ fn begin_erase(chip: &mut Machine, at: u32)
     chip.mode = ShownMode::Status;
 }
 
-// A cycle is announced, and until it comes the status register is shown.
-fn expect(chip: &mut Machine, step: NextStep) {
-    chip.step = step;
-    chip.mode = ShownMode::Status;
-}
 
 // At rest, by the code.
 fn command(chip: &mut Machine, at: u32, code: u8)

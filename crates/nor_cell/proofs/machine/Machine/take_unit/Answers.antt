@@ -5,7 +5,7 @@ use Rattle.nor_cell.specs.Intel.{first_of}
 use Rattle.nor_cell.specs.Machine.{machine_of, step_of, takes, loaded, job_of, Fits, StepFits, LoadFits}
 use Rattle.nor_cell.specs.declared.device.Device.{Device}
 use Rattle.nor_cell.specs.declared.state.NextStep.{NextStep}
-use Rattle.nor_cell.proofs.Loading.{idle_fits, first_is, first_stays, load_inside, load_short, step_changes, loaded_more, loaded_last}
+use Rattle.nor_cell.proofs.Loading.{idle_fits, first_is, first_stays, load_inside, load_short, load_some, step_changes, loaded_more, loaded_last}
 use Rattle.nor_cell.proofs.machine.Machine.take_unit.Goals as goal
 use Rattle.nor_cell.proofs.machine.Machine.take_unit.Goals.{then-is_empty, else-is_empty, then-missing-gt1, else-missing-gt1}
 
@@ -33,7 +33,7 @@ invariant_of-self c =
     let short : length next + unit_len z.device * (d.missing - 1) ≤ 512 = load_short z.device c.args.value load d.missing fits.short fits.some in
     let step_inside : StepFits c.if-missing-gt1.self next z = elim c.if-missing-gt1.branch [
       then-missing-gt1 w ↦ subst (λ (k : NextStep). StepFits k next z) (sym w.self-is) (record { inside = inside; short = short; some = omega (arith, w.if-missing-gt1.true); room = fits.room })
-    | else-missing-gt1 w ↦ subst (λ (k : NextStep). StepFits k next z) (sym w.self-is) inside
+    | else-missing-gt1 w ↦ subst (λ (k : NextStep). StepFits k next z) (sym w.self-is) (record { inside = inside; some = load_some z.device c.args.value load })
     ] in
     record { size = c.self.invariant.size; step_inside = subst (λ (l : List ℕ). StepFits c.if-missing-gt1.self l z) (sym c.push_unit.ensures) step_inside; job_inside = idle_fits c.self.inside.job load _ z (ap (λ (t : ChipState). t.job) c.self.view_is ∙ c.requires.job) }
 
