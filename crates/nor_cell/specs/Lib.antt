@@ -4,9 +4,11 @@ pub mod Cells
 pub mod Chip
 pub mod Intel
 pub mod Look
+pub mod Machine
 pub mod Power
 pub mod Ranges
 pub mod Resting
+pub mod Simulated
 pub mod Steps
 pub mod Table
 pub mod Wiring
