@@ -1,0 +1,6 @@
+pub mod Lanes
+pub mod Records
+pub mod Refusals
+pub mod Sizes
+pub mod Tests
+pub mod WeakPlaces

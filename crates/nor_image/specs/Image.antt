@@ -115,7 +115,7 @@ header_fields file =
 
 -- ---- the fields of the record of lane c, which begins at a place
 
--- the three paces, stuck, the number of weak places, both counters, the table
+-- the three paces, stuck, the number of weak places, both counters
 abbrev pub number_fields : List ℕ → ℕ → List Field
 number_fields file at =
     any_field at 4
@@ -125,8 +125,10 @@ number_fields file at =
     ∷ tested_field (at + 10) 2 (nat_le (weak_count file at) 256)
     ∷ any_field (at + 12) 4
     ∷ any_field (at + 16) 4
-    ∷ any_field (at + 20) 512
     ∷ []
+
+abbrev pub table_field : ℕ → Field
+table_field at = any_field (at + 20) 512
 
 -- A chip's size: where the table gives one that a chip may have, it is that.
 abbrev pub is_size_by : List ℕ → ℕ → Bool
@@ -168,7 +170,7 @@ cells_field file at = any_field (cells_at file at) (size_in file at)
 
 unfoldable pub record_fields : List ℕ → ℕ → ℕ → List Field
 record_fields file c at =
-    number_fields file at ++ size_field file c at ∷ weak_fields file at (weak_count file at) ++ cells_field file at ∷ []
+    number_fields file at ++ (table_field at ∷ size_field file c at ∷ (weak_fields file at (weak_count file at) ++ cells_field file at ∷ []))
 
 -- the header's fields and those of the first n records
 abbrev pub fields_before : List ℕ → ℕ → List Field

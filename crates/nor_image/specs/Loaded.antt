@@ -1,5 +1,5 @@
 -- A bank that was loaded from a file.
-use Rattle.std.specs.Prelude.{ℕ}
+use Rattle.std.specs.Prelude.{◌≡◌, ℕ, true, None}
 use Rattle.nor_bus.specs.Bus.{BusState}
 use Rattle.nor_image.specs.declared.loaded.Loaded.{Loaded}
 use Rattle.nor_image.specs.declared.loaded.Loaded.TheVariants.{Intel8, Intel16, Intel32, Intel64}
@@ -17,3 +17,10 @@ loaded_width (Intel8 bank) = 1
 loaded_width (Intel16 bank) = 2
 loaded_width (Intel32 bank) = 4
 loaded_width (Intel64 bank) = 8
+
+-- It has power, with no cut armed and no cycle made.
+pub record IsFresh (bus : BusState) : Type 0 where
+  pub power : bus.power ≡ true
+  pub armed : bus.armed ≡ None
+  pub cycles : bus.cycles ≡ 0
+  pub failed : bus.failed ≡ 0

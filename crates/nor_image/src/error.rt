@@ -1,6 +1,4 @@
-use std::alloc::AllocError;
-
-ghost use Rattle.std.specs.Prelude.{◌≡◌};
+use std::alloc::{AllocError, AllocFailed};
 
 /// Why a file stands for no bank that can be built. Places are in bytes from the file's start.
 #[derive(Clone, Copy, Debug, PartialEq, Eq)]
@@ -17,5 +15,28 @@ pub enum ImageError {
     SizeDiffers { lane: u8 },
     /// The file is well formed, and its chips are of set 0002, which isn't built.
     NotBuilt,
+    /// Memory ran out.
     NoMemory,
+}
+
+impl From<AllocError> for ImageError {
+    ghost use Rattle.std.specs.Prelude.{◌≡◌};
+    ghost use Rattle.nor_image.specs.declared.error.ImageError.TheVariants.{NoMemory};
+
+    ghost from_gives = { λ _ e. e ≡ NoMemory };
+
+    fn from(_: AllocError) -> Self {
+        ImageError::NoMemory
+    }
+}
+
+impl<T: Drop> From<AllocFailed<T>> for ImageError {
+    ghost use Rattle.std.specs.Prelude.{◌≡◌};
+    ghost use Rattle.nor_image.specs.declared.error.ImageError.TheVariants.{NoMemory};
+
+    ghost from_gives = { λ _ e. e ≡ NoMemory };
+
+    fn from(_: AllocFailed<T>) -> Self {
+        ImageError::NoMemory
+    }
 }
