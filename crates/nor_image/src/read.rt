@@ -14,7 +14,7 @@ use crate::machine::names_amd;
 use crate::record::{FIRST_RECORD, FIXED_PART, read_record};
 use crate::{ImageError, Loaded};
 use nor_bus::SimBank;
-use nor_cell::{Cells, Device, Geometry};
+use nor_cell::{Cells, Device, Geometry, NoMemory};
 use nor_intel::Intel;
 use std::alloc::Global;
 
@@ -38,6 +38,13 @@ fn read_lanes(alloc: Global, file: &[u8], geometry: Geometry) -> Result<Vec<Cell
         return Err(ImageError::Trailing { at: at as u32 });
     }
     Ok(lanes)
+}
+
+// The chips of these cells, just powered on.
+fn power_up(alloc: Global, lanes: Vec<Cells>) -> Result<Vec<Intel>, NoMemory>
+    ensures { IfOk result (λ chips. chips.items ≡ chips_of IntelSet lanes.items) }
+{
+    lanes.into_iter().map(Intel::new).collect(alloc)
 }
 
 // The chips on the bus of a width.
@@ -74,6 +81,6 @@ pub fn read_image(alloc: Global, file: &[u8]) -> Result<Loaded, ImageError>
     if names_amd(&lanes[0].table) {
         return Err(ImageError::NotBuilt);
     }
-    let chips = lanes.into_iter().map(Intel::new).collect(alloc)?;
+    let chips = power_up(alloc, lanes)?;
     Ok(on_bus(header.width, header.geometry.device, chips))
 }
