@@ -1,0 +1,6 @@
+pub mod Breaking
+pub mod Changing
+pub mod Cutting
+pub mod Keeping
+pub mod Loading
+pub mod Spans

@@ -4,8 +4,10 @@ pub mod Cells
 pub mod Chip
 pub mod Intel
 pub mod Look
+pub mod Machine
 pub mod Power
 pub mod Ranges
+pub mod Simulated
 pub mod Steps
 pub mod Table
 pub mod Wiring

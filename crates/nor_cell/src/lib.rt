@@ -12,14 +12,33 @@
 //! The trait `Chip` is what a bus asks of a chip. It stands on nothing but the standard library.
 #![tactic(auto)]
 
+mod bits;
+mod blocks;
 mod cells;
 mod chip;
 mod device;
+mod ends;
 mod geometry;
+mod loads;
+mod machine;
 mod make;
+mod reads;
+mod state;
+mod table;
 
+pub use bits::{is_between, unit_len};
+pub use blocks::block;
 pub use cells::{CellParts, Cells, NoMemory};
 pub use chip::Chip;
 pub use device::{Device, Set, Span, SuspendKind, Work};
 pub use geometry::{BadGeometry, Geometry, make_geometry};
+pub use machine::Machine;
 pub use make::make_cells;
+pub use reads::register;
+pub use state::{
+    EraseTarget, Failure, HeldErase, NextStep, RunningJob, ShownMode, StatusFlags,
+};
+pub use table::{
+    buffer_units, can_program_suspended, can_suspend, has_locks, left_at_start, set_of,
+    suspend_kind,
+};

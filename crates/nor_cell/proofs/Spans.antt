@@ -1,0 +1,76 @@
+-- Blocks that follow each other.
+use Rattle.std.proofs.Common.{◌≡◌, ◌+◌, ◌<◌, ◌≤◌, ◌-◌, ℕ, zero, suc, refl, sym, subst, ap, arith, ◌∙◌, Bool, true, false, ◌&&◌, ◌==◌, nat_lt, List, [], ◌∷◌, length, get_or, cond}
+use Rattle.std.specs.Prelude.{IsTrue}
+use Rattle.std.specs.List.{position_or_len}
+use Rattle.std.specs.List.Sorted.{IsNonDecreasingBy}
+use Rattle.std.proofs.lemmas.Bool.Decides.{nat_tests}
+use Rattle.nor_cell.specs.Chip.{span_end, block_at, has_blocks, blocks_end, no_span}
+use Rattle.nor_cell.specs.Ranges.{follow_to, are_blocks}
+use Rattle.nor_cell.specs.declared.device.Span.{Span}
+
+-- both tests of a conjunction pass
+pub both_pass : (a b : Bool) → (a && b) ≡ true → (a ≡ true) × (b ≡ true)
+both_pass true true h = (refl, refl)
+both_pass true false h = cc
+both_pass false b h = cc
+
+-- a test of two numbers
+pub same_number : (a b : ℕ) → (a == b) ≡ true → a ≡ b
+same_number a b h = grind (arith, nat_tests)
+
+-- the first span begins where it should, and the others follow
+first_follows : (end from : ℕ) (span : Span) (spans : List Span) → follow_to end from (span ∷ spans) ≡ true →
+    (span.from ≡ from) × (follow_to end (from + span.len) spans ≡ true)
+first_follows end from span spans h =
+    let b = both_pass (span.from == from) (follow_to end (from + span.len) spans) h in (same_number span.from from b.0, b.1)
+
+-- they don't end before they begin
+pub ends_behind : (end from : ℕ) (spans : List Span) → follow_to end from spans ≡ true → from ≤ end
+ends_behind end from [] h = let e = same_number from end h in omega arith
+ends_behind end from (span ∷ spans) h =
+    let f = first_follows end from span spans h in
+    let rest = ends_behind end (from + span.len) spans f.1 in omega arith
+
+-- each ends between the beginning and the end
+pub ends_between : (end from : ℕ) (spans : List Span) (k : ℕ) (d : Span) → follow_to end from spans ≡ true → k < length spans →
+    (from ≤ span_end (get_or spans k d)) × (span_end (get_or spans k d) ≤ end)
+ends_between end from [] k d h lt = absurd (omega arith)
+ends_between end from (span ∷ spans) zero d h lt =
+    let f = first_follows end from span spans h in
+    let rest = ends_behind end (from + span.len) spans f.1 in (omega arith, omega arith)
+ends_between end from (span ∷ spans) (suc k) d h lt =
+    let f = first_follows end from span spans h in
+    let rest = ends_between end (from + span.len) spans k d f.1 (omega arith) in (omega arith, rest.1)
+
+ends_rise_from : (end from : ℕ) (spans : List Span) → follow_to end from spans ≡ true → IsNonDecreasingBy span_end spans
+ends_rise_from end from [] h i j d le lt = absurd (omega arith)
+ends_rise_from end from (span ∷ spans) h zero zero d le lt = omega arith
+ends_rise_from end from (span ∷ spans) h zero (suc j) d le lt =
+    let f = first_follows end from span spans h in
+    let rest = ends_between end (from + span.len) spans j d f.1 (omega arith) in omega (arith, rest.0)
+ends_rise_from end from (span ∷ spans) h (suc i) zero d le lt = absurd (omega arith)
+ends_rise_from end from (span ∷ spans) h (suc i) (suc j) d le lt =
+    let f = first_follows end from span spans h in
+    ends_rise_from end (from + span.len) spans f.1 i j d (omega arith) (omega arith)
+
+-- the ends of blocks rise
+pub ends_rise : (size : ℕ) (blocks : List Span) → IsTrue (are_blocks size blocks) → IsNonDecreasingBy span_end blocks
+ends_rise size [] h i j d le lt = absurd (omega arith)
+ends_rise size (span ∷ blocks) h i j d le lt = ends_rise_from size 0 (span ∷ blocks) h i j d le lt
+
+-- each block lies in the chip
+pub block_inside : (size : ℕ) (blocks : List Span) (b : ℕ) (d : Span) → IsTrue (are_blocks size blocks) → b < length blocks → span_end (get_or blocks b d) ≤ size
+block_inside size [] b d h lt = absurd (omega arith)
+block_inside size (span ∷ blocks) b d h lt = let e = ends_between size 0 (span ∷ blocks) b d h lt in e.1
+
+-- the last block ends where the chip does
+end_from : (end from : ℕ) (span : Span) (spans : List Span) → follow_to end from (span ∷ spans) ≡ true → blocks_end (span ∷ spans) ≡ end
+end_from end from span [] h =
+    let f = first_follows end from span [] h in
+    let e = same_number (from + span.len) end f.1 in omega arith
+end_from end from span (next ∷ spans) h =
+    let f = first_follows end from span (next ∷ spans) h in end_from end (from + span.len) next spans f.1
+
+pub blocks_end_is : (size : ℕ) (blocks : List Span) → IsTrue (are_blocks size blocks) → has_blocks blocks ≡ true → blocks_end blocks ≡ size
+blocks_end_is size [] h some = cc
+blocks_end_is size (span ∷ blocks) h some = end_from size 0 span blocks h
