@@ -1,0 +1,135 @@
+-- Records that are read one after another.
+use Rattle.std.proofs.Common.{◌≡◌, ◌≢◌, ◌<◌, ◌≤◌, ◌⊎◌, inl, inr, ◌+◌, ◌*◌, ℕ, zero, suc, List, [], ◌∷◌, ◌++◌, length, map, Bool, true, false, IsTrue, nat_lt, refl, sym, ap, subst, ◌∙◌, arith, add-one, get_or, Option, Some, None}
+use Rattle.std.proofs.Math.ListN.{get_or-append}
+use Rattle.std.proofs.Math.Seq.{get_or-append_seam}
+use Rattle.std.proofs.lemmas.Bool.{cases_eq}
+use Rattle.std.proofs.lemmas.Bool.Decides.{nat_tests}
+use Rattle.std.proofs.lemmas.List.{length-append, map-append}
+use Rattle.nor_cell.specs.Bits.{AreBytes}
+use Rattle.nor_cell.specs.Cells.{chip_of}
+use Rattle.nor_cell.specs.Chip.{ChipState}
+use Rattle.nor_cell.specs.Power.{powered}
+use Rattle.nor_cell.specs.declared.cells.Cells.{Cells}
+use Rattle.nor_cell.specs.declared.device.Set.{Set}
+use Rattle.nor_bus.specs.Bus.{chip_at, no_chip}
+use Rattle.nor_image.specs.Image.{first_refusal, record_fields, fields_before, header_fields, record_place, record_end, lanes_of_file, device_of, weak_count, size_in, chip_in, trailing, image_refusal}
+use Rattle.nor_image.specs.Reading.{AreStored, AreChips, chips_of}
+use Rattle.nor_image.specs.declared.error.ImageError.{ImageError}
+use Rattle.nor_image.specs.declared.error.ImageError.TheVariants.{Trailing}
+use Rattle.nor_image.proofs.Refusals.{or_none, or_some, goes_on, stops, stays}
+
+-- what holds of each chip holds of one more
+pushed : (n c : ℕ) (P : ℕ → ChipState → Type 0) (xs : List ChipState) (x : ChipState) → length xs ≡ n → (c < n → P c (chip_at xs c)) → P n x
+    → c < n + 1 → (c ≡ n) ⊎ (c ≢ n) → P c (chip_at (xs ++ x ∷ []) c)
+pushed n c P xs x long before here below (inl is) =
+    let seam : chip_at (xs ++ x ∷ []) n ≡ x = subst (λ (k : ℕ). chip_at (xs ++ x ∷ []) k ≡ x) long (get_or-append_seam xs x [] no_chip) in
+    subst (λ (k : ℕ). P k (chip_at (xs ++ x ∷ []) k)) (sym is) (subst (λ (s : ChipState). P n s) (sym seam) here)
+pushed n c P xs x long before here below (inr apart) =
+    let under : c < n = omega arith in
+    let within : c < length xs = omega arith in
+    subst (λ (s : ChipState). P c s) (sym (get_or-append xs (x ∷ []) no_chip c within)) (before under)
+
+-- one more chip
+chips_pushed : (file : List ℕ) (set : Set) (n : ℕ) (xs : List ChipState) (x : ChipState) → AreChips file set n xs
+    → x ≡ chip_in file set (device_of file) (record_place file n) → length x.cells ≡ size_in file 12 → AreBytes x.cells → AreChips file set (n + 1) (xs ++ x ∷ [])
+chips_pushed file set n xs x so is size bytes = record {
+  count = length-append xs (x ∷ []) ∙ (let long = so.count in omega arith);
+  each = λ c below. pushed n c (λ k s. s ≡ chip_in file set (device_of file) (record_place file k)) xs x so.count (so.each c) is below (cases_eq c n);
+  sizes = λ c below. pushed n c (λ k s. length s.cells ≡ size_in file 12) xs x so.count (so.sizes c) size below (cases_eq c n);
+  bytes = λ c below. pushed n c (λ k s. AreBytes s.cells) xs x so.count (so.bytes c) bytes below (cases_eq c n);
+}
+
+-- the first n records were read, and none of their fields refused; the next one begins at a place
+pub record LanesSoFar (file : List ℕ) (n at : ℕ) (lanes : List Cells) : Type 0 where
+  pub at_is : at ≡ record_place file n
+  pub behind : 12 ≤ at
+  pub within : at ≤ length file
+  pub none : first_refusal file (fields_before file n) ≡ None
+  pub chips : (set : Set) → AreChips file set n (chips_of set lanes)
+
+-- one more record
+pub lanes_more : (file : List ℕ) (n at next : ℕ) (lanes more : List Cells) (cells : Cells) → LanesSoFar file n at lanes
+    → first_refusal file (record_fields file n at) ≡ None → AreStored file (device_of file) at cells
+    → next ≡ at + (536 + 4 * length cells.weak.items + length cells.bytes.items) → more ≡ lanes ++ cells ∷ [] → LanesSoFar file (n + 1) next more
+lanes_more file n at next lanes more cells so right stored further pushed =
+    let f : Set → Cells → ChipState = λ set c. powered (chip_of set c) in
+    let end : next ≡ record_end file at = (let a = stored.weak in let b = stored.size in omega arith) in
+    let whole = stored.whole in
+    let behind = so.behind in
+    let chip : (set : Set) → powered (chip_of set cells) ≡ chip_in file set (device_of file) (record_place file n) =
+    λ set. stored.chip set ∙ ap (chip_in file set (device_of file)) so.at_is in
+    let chips : (set : Set) → AreChips file set (n + 1) (chips_of set more) = λ set.
+    subst (λ (xs : List ChipState). AreChips file set (n + 1) xs) (sym (ap (map (f set)) pushed ∙ map-append (f set) lanes (cells ∷ [])))
+    (chips_pushed file set n (chips_of set lanes) (powered (chip_of set cells)) (so.chips set) (chip set) stored.same stored.bytes) in
+    let right' : first_refusal file (record_fields file n (record_place file n)) ≡ None = subst (λ (p : ℕ). first_refusal file (record_fields file n p) ≡ None) so.at_is right in
+    record {
+      at_is = end ∙ (ap (record_end file) so.at_is ∙ ap (record_place file) (sym (add-one n)));
+      behind = omega arith;
+      within = omega arith;
+      none = ap (λ (k : ℕ). first_refusal file (fields_before file k)) (add-one n)
+      ∙ (goes_on file (fields_before file n) (record_fields file n (record_place file n)) so.none ∙ right');
+      chips = chips;
+    }
+
+-- a refusal in the header
+in_fields : (file : List ℕ) (n : ℕ) (e : ImageError) → first_refusal file (header_fields file) ≡ Some e → first_refusal file (fields_before file n) ≡ Some e
+in_fields file zero e h = h
+in_fields file (suc n) e h = stops file (fields_before file n) (record_fields file n (record_place file n)) e (in_fields file n e h)
+
+pub header_stops : (file : List ℕ) (e : ImageError) → first_refusal file (header_fields file) ≡ Some e → image_refusal file ≡ Some e
+unfolding image_refusal
+header_stops file e h = or_some _ _ e (in_fields file (lanes_of_file file) e h)
+
+-- a refusal in a record
+pub lane_stops : (file : List ℕ) (n at : ℕ) (lanes : List Cells) (e : ImageError) → LanesSoFar file n at lanes → n < lanes_of_file file
+    → first_refusal file (record_fields file n at) ≡ Some e → image_refusal file ≡ Some e
+unfolding image_refusal
+lane_stops file n at lanes e so below refused =
+    or_some _ _ e (stays file (fields_before file) (λ k. record_fields file k (record_place file k)) (λ k. refl) e n (lanes_of_file file) below so.none
+    (subst (λ (p : ℕ). first_refusal file (record_fields file n p) ≡ Some e) so.at_is refused))
+
+goes_further : (file : List ℕ) (end : ℕ) → end < length file → trailing file end ≡ Some (Trailing end)
+goes_further file end h =
+    let longer : nat_lt end (length file) ≡ true = grind (arith, nat_tests) in
+    rw longer refl
+
+ends : (file : List ℕ) (end : ℕ) → length file ≤ end → trailing file end ≡ None
+ends file end h =
+    let not_longer : nat_lt end (length file) ≡ false = grind (arith, nat_tests) in
+    rw not_longer refl
+
+-- bytes behind the last record
+pub trailing_stops : (file : List ℕ) (n at : ℕ) (lanes : List Cells) → LanesSoFar file n at lanes → n ≡ lanes_of_file file
+    → at < length file → image_refusal file ≡ Some (Trailing at)
+unfolding image_refusal
+trailing_stops file n at lanes so all further =
+    let last : at ≡ record_place file (lanes_of_file file) = so.at_is ∙ ap (record_place file) all in
+    or_none _ _ (subst (λ (k : ℕ). first_refusal file (fields_before file k) ≡ None) all so.none)
+    ∙ subst (λ (p : ℕ). trailing file p ≡ Some (Trailing at)) last (goes_further file at further)
+
+-- the file ends with the last record
+pub nothing_stops : (file : List ℕ) (n at : ℕ) (lanes : List Cells) → LanesSoFar file n at lanes → n ≡ lanes_of_file file
+    → length file ≤ at → image_refusal file ≡ None
+unfolding image_refusal
+nothing_stops file n at lanes so all whole =
+    let last : at ≡ record_place file (lanes_of_file file) = so.at_is ∙ ap (record_place file) all in
+    or_none _ _ (subst (λ (k : ℕ). first_refusal file (fields_before file k) ≡ None) all so.none)
+    ∙ subst (λ (p : ℕ). trailing file p ≡ None) last (ends file at whole)
+
+no_chips : (file : List ℕ) (set : Set) → AreChips file set 0 []
+no_chips file set = record {
+  count = refl;
+  each = λ c below. absurd (omega arith);
+  sizes = λ c below. absurd (omega arith);
+  bytes = λ c below. absurd (omega arith);
+}
+
+-- before the first record
+pub no_lanes : (file : List ℕ) (lanes : List Cells) → first_refusal file (header_fields file) ≡ None → 12 ≤ length file → lanes ≡ [] → LanesSoFar file 0 12 lanes
+no_lanes file lanes header long none = record {
+  at_is = refl;
+  behind = omega arith;
+  within = long;
+  none = header;
+  chips = λ set. subst (λ (xs : List Cells). AreChips file set 0 (chips_of set xs)) (sym none) (no_chips file set);
+}

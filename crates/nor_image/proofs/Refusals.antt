@@ -1,0 +1,51 @@
+-- The first refusal among fields.
+use Rattle.std.proofs.Common.{◌≡◌, ◌≢◌, ◌<◌, ◌⊎◌, inl, inr, ℕ, zero, suc, List, [], ◌∷◌, ◌++◌, refl, sym, ap, subst, ◌∙◌, arith, Option, Some, None}
+use Rattle.std.proofs.lemmas.Bool.{cases_eq}
+use Rattle.std.specs.Option.{option_or}
+use Rattle.nor_image.specs.Image.{Field, any_field, first_refusal, refusal_of}
+use Rattle.nor_image.specs.declared.error.ImageError.{ImageError}
+
+-- nothing is refused first, so what follows decides
+pub or_none : (p q : Option ImageError) → p ≡ None → option_or p q ≡ q
+or_none p q none = subst (λ (o : Option ImageError). option_or o q ≡ q) (sym none) refl
+
+-- what is refused first decides
+pub or_some : (p q : Option ImageError) (e : ImageError) → p ≡ Some e → option_or p q ≡ Some e
+or_some p q e some = subst (λ (o : Option ImageError). option_or o q ≡ Some e) (sym some) refl
+
+or_assoc : (p q r : Option ImageError) → option_or p (option_or q r) ≡ option_or (option_or p q) r
+or_assoc None q r = refl
+or_assoc (Some e) q r = refl
+
+pub first_refusal-append : (file : List ℕ) (xs ys : List Field) → first_refusal file (xs ++ ys) ≡ option_or (first_refusal file xs) (first_refusal file ys)
+first_refusal-append file [] ys = refl
+first_refusal-append file (x ∷ xs) ys =
+    ap (option_or (refusal_of file x)) (first_refusal-append file xs ys)
+    ∙ or_assoc (refusal_of file x) (first_refusal file xs) (first_refusal file ys)
+
+-- the first fields are right, so the later ones decide
+pub goes_on : (file : List ℕ) (xs ys : List Field) → first_refusal file xs ≡ None → first_refusal file (xs ++ ys) ≡ first_refusal file ys
+goes_on file xs ys none = first_refusal-append file xs ys ∙ or_none (first_refusal file xs) (first_refusal file ys) none
+
+-- a refusal among the first fields stands
+pub stops : (file : List ℕ) (xs ys : List Field) (e : ImageError) → first_refusal file xs ≡ Some e → first_refusal file (xs ++ ys) ≡ Some e
+stops file xs ys e some = first_refusal-append file xs ys ∙ or_some (first_refusal file xs) (first_refusal file ys) e some
+
+stays_at : (file : List ℕ) (F G : ℕ → List Field) (e : ImageError) (k n : ℕ) → F (suc n) ≡ F n ++ G n → first_refusal file (F k) ≡ None → first_refusal file (G k) ≡ Some e
+    → (k ≢ n → first_refusal file (F n) ≡ Some e) → (k ≡ n) ⊎ (k ≢ n) → first_refusal file (F (suc n)) ≡ Some e
+stays_at file F G e k n step none some before (inl is) =
+    ap (first_refusal file) step
+    ∙ (goes_on file (F n) (G n) (subst (λ (m : ℕ). first_refusal file (F m) ≡ None) is none)
+    ∙ subst (λ (m : ℕ). first_refusal file (G m) ≡ Some e) is some)
+stays_at file F G e k n step none some before (inr apart) = ap (first_refusal file) step ∙ stops file (F n) (G n) e (before apart)
+
+-- of fields that come step by step, the first refusal is that of the first step that has one
+pub stays : (file : List ℕ) (F G : ℕ → List Field) → ((k : ℕ) → F (suc k) ≡ F k ++ G k) → (e : ImageError) (k n : ℕ) → k < n
+    → first_refusal file (F k) ≡ None → first_refusal file (G k) ≡ Some e → first_refusal file (F n) ≡ Some e
+stays file F G step e k zero below none some = absurd (omega arith)
+stays file F G step e k (suc n) below none some =
+    stays_at file F G e k n (step n) none some (λ apart. stays file F G step e k n (omega arith) none some) (cases_eq k n)
+
+-- a field at the same place with the same size
+pub any_at : (file : List ℕ) (a b n m : ℕ) → a ≡ b → n ≡ m → refusal_of file (any_field a n) ≡ refusal_of file (any_field b m)
+any_at file a b n m p q = λ i. refusal_of file (any_field (p i) (q i))

@@ -1,0 +1,9 @@
+-- Tests joined by `&&`.
+use Rattle.std.proofs.Common.{◌≡◌, Bool, true, false, ◌&&◌, refl, sym, subst}
+
+pub both : (a b : Bool) → (a && b) ≡ true → (a ≡ true) × (b ≡ true)
+both true b h = (refl, h)
+both false b h = absurd (cc)
+
+pub join : (a b : Bool) → a ≡ true → b ≡ true → (a && b) ≡ true
+join a b p q = subst (λ (c : Bool). (c && b) ≡ true) (sym p) q

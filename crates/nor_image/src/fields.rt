@@ -1,0 +1,74 @@
+ghost use Rattle.std.specs.Prelude.{◌≡◌, ◌≤◌, ◌<◌, ◌^◌, ◌↔◌, ℕ, length, slice_index, nat_le, IfOk, None, Some, if◌then◌else◌};
+ghost use Rattle.nor_io.specs.Fields.{u16_at, u32_at};
+ghost use Rattle.nor_image.specs.Image.{any_field, tested_field, refusal_of, bytes_at};
+ghost use Rattle.nor_image.specs.Reading.{Reads};
+
+use crate::ImageError;
+use nor_io::{field_u16, field_u32};
+
+// A field that isn't whole is refused where the file ends.
+fn truncated(file: &[u8]) -> ImageError
+    requires { length file.now ≤ 2 ^ 30 }
+    ensures { result ≡ ImageError.Truncated (length file.now) }
+{
+    ImageError::Truncated {
+        at: file.len() as u32,
+    }
+}
+
+// Refuses a field that may not have its value.
+pub fn check(valid: bool, at: usize) -> Result<(), ImageError>
+    requires { at < 2 ^ 32 }
+    ensures { Reads (if valid then None else Some (ImageError.BadHeader at)) (λ _. Unit {0}) result }
+{
+    if valid {
+        Ok(())
+    } else {
+        Err(ImageError::BadHeader { at: at as u32 })
+    }
+}
+
+pub fn bytes_field(file: &[u8], at: usize, size: u32) -> Result<&[u8], ImageError>
+    requires small { length file.now ≤ 2 ^ 30 }
+    requires near { at < 2 ^ 32 }
+    ensures read { Reads (refusal_of file.now (any_field at size)) (λ bytes. bytes.now ≡ bytes_at file.now at size) result }
+    ensures size { IfOk result (λ bytes. length bytes.now ≡ size) }
+{
+    file.get(at..at + size as usize).ok_or(truncated(file))
+}
+
+pub fn byte_field(file: &[u8], at: usize) -> Result<u8, ImageError>
+    requires { length file.now ≤ 2 ^ 30 }
+    ensures read { Reads (refusal_of file.now (any_field at 1)) (λ n. n ≡ slice_index file.now at) result }
+{
+    file.get(at).copied().ok_or(truncated(file))
+}
+
+pub fn u32_field(file: &[u8], at: usize) -> Result<u32, ImageError>
+    requires { length file.now ≤ 2 ^ 30 }
+    ensures read { Reads (refusal_of file.now (any_field at 4)) (λ n. n ≡ u32_at file.now at) result }
+{
+    field_u32(file, at).ok_or(truncated(file))
+}
+
+// A byte that may have the values from 0 to `most`.
+pub fn byte_up_to(file: &[u8], at: usize, most: u8) -> Result<u8, ImageError>
+    requires small { length file.now ≤ 2 ^ 30 }
+    requires near { at < 2 ^ 32 }
+    ensures read { Reads (refusal_of file.now (tested_field at 1 (nat_le (slice_index file.now at) most))) (λ n. (n ≡ slice_index file.now at) × (n ≤ most)) result }
+{
+    let byte = byte_field(file, at)?;
+    check(byte <= most, at)?;
+    Ok(byte)
+}
+
+// A number of two bytes that may have the values from 0 to `most`.
+pub fn u16_up_to(file: &[u8], at: usize, most: u16) -> Result<u16, ImageError>
+    requires small { length file.now ≤ 2 ^ 30 }
+    requires near { at < 2 ^ 32 }
+    ensures read { Reads (refusal_of file.now (tested_field at 2 (nat_le (u16_at file.now at) most))) (λ n. (n ≡ u16_at file.now at) × (n ≤ most)) result }
+{
+    let number = field_u16(file, at).ok_or(truncated(file))?;
+    check(number <= most, at)?;
+    Ok(number)
+}

@@ -1,0 +1,79 @@
+ghost use Rattle.std.specs.Prelude.{◌≡◌, ◌≤◌, ◌^◌, length, slice_index, nat_le};
+ghost use Rattle.nor_cell.specs.Wiring.{is_wiring};
+ghost use Rattle.nor_image.specs.Image.{magic_field, tested_field, refusal_of, first_refusal, header_fields, is_width, width_of, device_of, device_of_code, lanes_of_file};
+ghost use Rattle.nor_image.specs.Reading.{Reads, IsHeader};
+
+use crate::ImageError;
+use crate::fields::{byte_field, byte_up_to, bytes_field, check};
+use nor_cell::{Device, Geometry, make_geometry};
+
+const MAGIC: &[u8; 8] = b"NORBANK1";
+
+/// What the header says: the width in bytes, the lanes and the device.
+#[derive(Clone, Copy)]
+pub struct Header {
+    pub width: u8,
+    pub geometry: Geometry,
+}
+
+fn read_magic(file: &[u8]) -> Result<(), ImageError>
+    requires { length file.now ≤ 2 ^ 30 }
+    ensures { Reads (refusal_of file.now (magic_field file.now)) (λ _. Unit {0}) result }
+{
+    bytes_field(file, 0, 8)?;
+    if file.starts_with(MAGIC) {
+        Ok(())
+    } else {
+        Err(ImageError::BadMagic)
+    }
+}
+
+fn read_width(file: &[u8]) -> Result<u8, ImageError>
+    requires { length file.now ≤ 2 ^ 30 }
+    ensures { Reads (refusal_of file.now (tested_field 8 1 (is_width (width_of file.now)))) (λ width. width ≡ width_of file.now) result }
+{
+    let width = byte_field(file, 8)?;
+    check(matches!(width, 1 | 2 | 4 | 8), 8)?;
+    Ok(width)
+}
+
+fn device_of_code(code: u8) -> Device
+    ensures { result ≡ device_of_code code }
+{
+    match code {
+        0 => Device::X8,
+        1 => Device::X16,
+        _ => Device::X16Byte,
+    }
+}
+
+fn read_device(file: &[u8]) -> Result<Device, ImageError>
+    requires { length file.now ≤ 2 ^ 30 }
+    ensures { Reads (refusal_of file.now (tested_field 9 1 (nat_le (slice_index file.now 9) 2))) (λ device. device ≡ device_of file.now) result }
+{
+    let code = byte_up_to(file, 9, 2)?;
+    Ok(device_of_code(code))
+}
+
+// The lanes, which have to fill the width.
+fn read_geometry(file: &[u8], width: u8, device: Device) -> Result<Geometry, ImageError>
+    requires small { length file.now ≤ 2 ^ 30 }
+    requires width { width ≡ width_of file.now }
+    requires device { device ≡ device_of file.now }
+    ensures { Reads (refusal_of file.now (tested_field 10 1 (is_wiring (width_of file.now) (lanes_of_file file.now) (device_of file.now)))) (λ g. g ≡ record { lanes = lanes_of_file file.now; device = device_of file.now }) result }
+{
+    let lanes = byte_field(file, 10)?;
+    make_geometry(width, lanes, device).map_err(|_| ImageError::BadHeader { at: 10 })
+}
+
+pub fn read_header(file: &[u8]) -> Result<Header, ImageError>
+    requires { length file.now ≤ 2 ^ 30 }
+    ensures { Reads (first_refusal file.now (header_fields file.now)) (IsHeader file.now) result }
+{
+    read_magic(file)?;
+    let width = read_width(file)?;
+    let device = read_device(file)?;
+    let geometry = read_geometry(file, width, device)?;
+    byte_up_to(file, 11, 0)?;
+    Ok(Header { width, geometry })
+}
