@@ -1,0 +1,5 @@
+pub mod Endings
+pub mod Says
+pub mod Status
+pub mod Text
+pub mod Words

@@ -1,0 +1,9 @@
+-- The status after the last text.
+use Rattle.std.specs.Prelude.{◌≡◌, ℕ, Result, Ok, Err}
+use Rattle.nor_io.specs.declared.sink.SinkError.{SinkError}
+use Rattle.nor_io.specs.declared.sink.SinkError.TheVariants.{Fault, NoMemory}
+
+abbrev pub AfterPut : ℕ → Result (Unit {0}) SinkError → ℕ → Type 0
+AfterPut code (Ok done) status = status ≡ code
+AfterPut code (Err Fault) status = status ≡ 7
+AfterPut code (Err NoMemory) status = status ≡ 9
