@@ -1,5 +1,5 @@
 -- The chip that a simulated machine stands for.
-use Rattle.std.specs.Prelude.{◌<◌, ◌≤◌, ◌+◌, ◌-◌, ◌*◌, ◌^◌, ℕ, List, [], ◌++◌, length, Bool, false}
+use Rattle.std.specs.Prelude.{◌<◌, ◌≤◌, ◌+◌, ◌-◌, ◌*◌, ◌^◌, ℕ, List, [], ◌++◌, length, Bool, false, ◌==◌}
 use Rattle.nor_cell.specs.Bits.{unit_len, unit_bytes}
 use Rattle.nor_cell.specs.Table.{buffer_units, left_at_start}
 use Rattle.nor_cell.specs.Intel.{is_next, taken, first_of}
@@ -152,3 +152,12 @@ erase_started target s =
 abbrev pub program_started : Work → ℕ → List ℕ → ChipState → ChipState
 program_started work u bytes s =
     record s { step = Rest; job = Program (place s.part u) bytes (left_at_start work s.part.pace_program s.part.table) }
+
+-- ---- jobs end
+
+-- a job runs that shows working no more
+abbrev pub is_over : Job → Bool
+is_over Idle = false
+is_over (Program at bytes left) = left == 0
+is_over (Erase target left) = left == 0
+is_over (Pausing b wait left) = wait == 0

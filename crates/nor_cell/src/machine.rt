@@ -1,10 +1,10 @@
 //! A simulated chip of either set: its cells, where it stands in its commands, and what both sets
 //! make of a read, of a loss of power, and of its return.
-ghost use Rattle.std.specs.Prelude.{◌≡◌};
+ghost use Rattle.std.specs.Prelude.{◌≡◌, true, false};
 ghost use Rattle.nor_cell.specs.Cells.{chip_of};
 ghost use Rattle.nor_cell.specs.Intel.{set_lock};
 ghost use Rattle.nor_cell.specs.Look.{look, looked, LooksTo, suspended, resumed};
-ghost use Rattle.nor_cell.specs.Machine.{target_of, erase_started};
+ghost use Rattle.nor_cell.specs.Machine.{is_over, target_of, erase_started};
 ghost use Rattle.nor_cell.specs.Power.{Cuts, powered};
 ghost use Rattle.nor_cell.specs.Simulated.{CutsBy, CutsHeld, CutsJob, LeavesBroken};
 ghost use Rattle.nor_cell.specs.Steps.{Keeps};
@@ -12,9 +12,7 @@ ghost use Rattle.nor_cell.specs.Steps.{Keeps};
 use crate::bits::unit_len;
 use crate::blocks::{block, covered};
 use crate::ends::{erase, program, set_bits, store_partly};
-use crate::state::{
-    EraseTarget, Failure, HeldErase, NextStep, RunningJob, ShownMode, StatusFlags,
-};
+use crate::state::{EraseTarget, Failure, HeldErase, NextStep, RunningJob, ShownMode, StatusFlags};
 use crate::table::{can_suspend, has_locks, left_at_start};
 use crate::{Cells, Set, Work};
 use arrayvec::ArrayVec;
@@ -83,7 +81,7 @@ impl Machine {
         self.go_on();
     }
 
-    // The job goes on, or ends.
+    // A job that has reads left goes on, and one that has none ends.
     fn go_on(&mut self)
         ensures cells { LooksTo self.old (look self.old) self.new.cells }
         ensures rest { self.new ≡ record (looked (look self.old) self.old) { cells = self.new.cells } }
@@ -95,48 +93,60 @@ impl Machine {
         match self.job {
             RunningJob::Idle => {}
             RunningJob::Program { at, left } if left > 0 => {
-                self.job = RunningJob::Program { at, left: left - 1 };
+                let left = left - 1;
+                self.job = RunningJob::Program { at, left };
             }
+            RunningJob::Erase { target, left } if left > 0 => {
+                let left = left - 1;
+                self.job = RunningJob::Erase { target, left };
+            }
+            RunningJob::Pausing { block, wait, left } if wait > 0 => {
+                let wait = wait - 1;
+                self.job = RunningJob::Pausing { block, wait, left };
+            }
+            RunningJob::Program { .. } => self.end(),
+            RunningJob::Erase { .. } => self.end(),
+            RunningJob::Pausing { .. } => self.end(),
+        }
+    }
+
+    // A job that has no reads left ends: a program and an erase with what they leave of the cells,
+    // and an erase that is being suspended is held.
+    fn end(&mut self)
+        requires stuck { (self.old).part.stuck ≡ false }
+        requires over { is_over (self.old).job ≡ true }
+        ensures cells { LooksTo self.old (look self.old) self.new.cells }
+        ensures rest { self.new ≡ record (looked (look self.old) self.old) { cells = self.new.cells } }
+        ensures broken { LeavesBroken self.old (look self.old) self.new.cells }
+    {
+        match self.job {
+            RunningJob::Idle => {}
             RunningJob::Program { at, .. } => {
                 let unit = unit_len(self.cells.device);
+                let load = self.load.as_slice();
                 let broke = program(
                     &mut self.cells.bytes,
                     &self.cells.weak,
                     unit,
                     at as usize,
-                    self.load.as_slice(),
+                    load,
                 );
                 self.job = RunningJob::Idle;
-                if broke {
-                    match self.set {
-                        Set::Intel => self.flags.program = true,
-                        Set::Amd => self.fault = Failure::ProgramTime { at },
-                    }
+                match self.set {
+                    Set::Intel => self.flags.program |= broke,
+                    Set::Amd if broke => self.fault = Failure::ProgramTime { at },
+                    Set::Amd => {}
                 }
-            }
-            RunningJob::Erase { target, left } if left > 0 => {
-                self.job = RunningJob::Erase {
-                    target,
-                    left: left - 1,
-                };
             }
             RunningJob::Erase { target, .. } => {
                 let span = covered(&self.cells, target);
                 let broke = erase(&mut self.cells.bytes, &self.cells.weak, span);
                 self.job = RunningJob::Idle;
-                if broke {
-                    match self.set {
-                        Set::Intel => self.flags.erase = true,
-                        Set::Amd => self.fault = Failure::EraseTime { target },
-                    }
+                match self.set {
+                    Set::Intel => self.flags.erase |= broke,
+                    Set::Amd if broke => self.fault = Failure::EraseTime { target },
+                    Set::Amd => {}
                 }
-            }
-            RunningJob::Pausing { block, wait, left } if wait > 0 => {
-                self.job = RunningJob::Pausing {
-                    block,
-                    wait: wait - 1,
-                    left,
-                };
             }
             RunningJob::Pausing { block, left, .. } => {
                 self.job = RunningJob::Idle;

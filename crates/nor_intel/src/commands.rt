@@ -9,17 +9,31 @@ use nor_cell::{EraseTarget, Machine, NextStep, ShownMode, StatusFlags, Work, has
 /// The suspend code, which alone is taken while a job runs.
 pub(crate) const SUSPEND: u8 = 0xB0;
 
+// What reads show from now on. 0xFF, which shows the array, is as any code that isn't listed.
 const READ_IDENTIFIERS: u8 = 0x90;
+
 const READ_QUERY: u8 = 0x98;
+
 const READ_STATUS: u8 = 0x70;
+
+// Error flags become 0.
 const CLEAR_STATUS: u8 = 0x50;
+
+// The first cycles of commands that have more.
 const PROGRAM: u8 = 0x40;
-const PROGRAM_OTHER: u8 = 0x10;
+
+const PROGRAM_ALTERNATE: u8 = 0x10;
+
 const BUFFER_LOAD: u8 = 0xE8;
+
 const ERASE: u8 = 0x20;
+
 const LOCK_SETUP: u8 = 0x60;
+
+// The second cycle that locks a block.
 const LOCK: u8 = 0x01;
-// It confirms a buffer load and an erase, unlocks a block, and resumes an erase.
+
+// It confirms an erase and a buffer load, unlocks a block, and resumes a suspended erase.
 const CONFIRM: u8 = 0xD0;
 
 // Error flags are set, and the command is over.
@@ -32,8 +46,8 @@ fn flag(chip: &mut Machine, erase: bool, program: bool, locked: bool)
     chip.flags.locked |= locked;
 }
 
-// A command sequence error.
-fn mislead(chip: &mut Machine)
+// The cycle doesn't follow the one before.
+fn sequence_error(chip: &mut Machine)
     ensures { chip.new ≡ misled chip.old }
 {
     flag(chip, true, true, false);
@@ -50,7 +64,7 @@ fn begin_program(chip: &mut Machine, work: Work, first: u32)
     if chip.is_locked(block) {
         flag(chip, false, true, true);
     } else if chip.held_off(block) {
-        mislead(chip);
+        sequence_error(chip);
     } else {
         chip.start_program(work, first);
     }
@@ -66,13 +80,12 @@ fn begin_erase(chip: &mut Machine, at: u32)
     if chip.is_locked(block) {
         flag(chip, true, false, true);
     } else if chip.is_held() {
-        mislead(chip);
+        sequence_error(chip);
     } else {
         chip.start_erase(EraseTarget::OneBlock { block });
     }
     chip.mode = ShownMode::Status;
 }
-
 
 // At rest, by the code.
 fn command(chip: &mut Machine, at: u32, code: u8)
@@ -87,7 +100,7 @@ fn command(chip: &mut Machine, at: u32, code: u8)
         READ_QUERY => chip.mode = ShownMode::Query,
         READ_STATUS => chip.mode = ShownMode::Status,
         CLEAR_STATUS => chip.flags = StatusFlags::default(),
-        PROGRAM | PROGRAM_OTHER if takes_jobs => {
+        PROGRAM | PROGRAM_ALTERNATE if takes_jobs => {
             chip.step = NextStep::ProgramNext;
             chip.mode = ShownMode::Status;
         }
@@ -124,7 +137,7 @@ fn lock(chip: &mut Machine, at: u32, code: u8)
     } else if code == CONFIRM && offered {
         chip.set_lock(block, false);
     } else {
-        mislead(chip);
+        sequence_error(chip);
     }
 }
 
@@ -154,7 +167,7 @@ pub(crate) fn step(chip: &mut Machine, at: u32, value: u16)
         NextStep::EraseNext
         | NextStep::BufferCount { .. }
         | NextStep::BufferData { .. }
-        | NextStep::BufferConfirm { .. } => mislead(chip),
+        | NextStep::BufferConfirm { .. } => sequence_error(chip),
         // Steps of the other set.
         _ => {}
     }
