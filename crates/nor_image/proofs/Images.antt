@@ -8,7 +8,7 @@ use Rattle.nor_cell.specs.Wiring.{is_wiring}
 use Rattle.nor_cell.specs.declared.cells.Cells.{Cells}
 use Rattle.nor_cell.specs.declared.device.Device.{Device}
 use Rattle.nor_cell.specs.declared.device.Set.{Set}
-use Rattle.nor_cell.specs.declared.device.Set.TheVariants.{Intel, Amd}
+use Rattle.nor_cell.specs.declared.device.Set.TheVariants.{Intel}
 use Rattle.nor_bus.specs.Bus.{IsBank, chip_at}
 use Rattle.nor_bus.proofs.Mapped.{state_there}
 use Rattle.nor_image.specs.Image.{image_refusal, width_of, device_of, lanes_of_file, machine_of, table_in, IsImageOf, IsCause}
@@ -42,16 +42,12 @@ is_bank file n chips so wired some = record {
   sizes = λ c below. so.sizes c (subst (λ (k : ℕ). c < k) so.count below) ∙ sym (so.sizes 0 some);
 }
 
-not_amd : (set : Set) → set ≢ Amd → set ≡ Intel
-not_amd Intel h = refl
-not_amd Amd h = absurd (h refl)
-
 -- they are the file's bank
 pub is_image : (file : List ℕ) (chips : List ChipState) → AreChips file Intel (lanes_of_file file) chips → image_refusal file ≡ None
-    → machine_of file ≢ Amd → IsImageOf file Intel (device_of file) chips
-is_image file chips so formed other = record {
+    → machine_of file ≡ Intel → IsImageOf file Intel (device_of file) chips
+is_image file chips so formed named = record {
   well_formed = formed;
-  machine = not_amd (machine_of file) other;
+  machine = named;
   wired = refl;
   count = so.count;
   each = λ c below. so.each c (subst (λ (k : ℕ). c < k) so.count below);
