@@ -1,6 +1,7 @@
 use super::*;
 use nor_bus::Bus;
 use std::alloc::{AllocError, Global};
+use std::process::Abort;
 use std::test::Fail;
 
 // What a file's lane is to have: the size of its chip as a power of two, its weak places, and
@@ -32,10 +33,14 @@ const SMALL: Lane = Lane {
 
 // A query table from its word 0x10 on, of a chip of set 0001 with 8 KiB.
 const TABLE: [u8; 43] = [
-    0x51, 0x52, 0x59, 0x01, 0x00, 0x31, 0x00, 0x00, 0x00, 0x00, 0x00, 0x27, 0x36, 0x00, 0x00, 0x04, 0x06, 0x0a, 0x00, 0x02,
-    0x02, 0x02, 0x00, 0x0d, 0x01, 0x00, 0x05, 0x00, 0x01, 0x07, 0x00, 0x04, 0x00, 0x50, 0x52, 0x49, 0x31, 0x31, 0x22, 0x00,
-    0x00, 0x00, 0x01,
+    0x51, 0x52, 0x59, 0x01, 0x00, 0x31, 0x00, 0x00, 0x00, 0x00, 0x00, 0x27, 0x36, 0x00, 0x00, 0x04,
+    0x06, 0x0a, 0x00, 0x02, 0x02, 0x02, 0x00, 0x0d, 0x01, 0x00, 0x05, 0x00, 0x01, 0x07, 0x00, 0x04,
+    0x00, 0x50, 0x52, 0x49, 0x31, 0x31, 0x22, 0x00, 0x00, 0x00, 0x01,
 ];
+
+fn low_byte(n: usize) -> u8 {
+    n.to_le_bytes()[0]
+}
 
 fn push_zeros(file: &mut Vec<u8>, count: u32) -> Result<(), AllocError> {
     for _ in 0..count {
@@ -45,8 +50,10 @@ fn push_zeros(file: &mut Vec<u8>, count: u32) -> Result<(), AllocError> {
 }
 
 fn push_lane(file: &mut Vec<u8>, lane: Lane) -> Result<(), AllocError> {
-    let count = lane.weak.len() as u8;
-    file.extend_from_slice(&[2, 0, 0, 0, 4, 0, 0, 0, 2, 0, count, 0, 0, 0, 0, 0, 0, 0, 0, 0])?;
+    let count = low_byte(lane.weak.len());
+    file.extend_from_slice(&[
+        2, 0, 0, 0, 4, 0, 0, 0, 2, 0, count, 0, 0, 0, 0, 0, 0, 0, 0, 0,
+    ])?;
     push_zeros(file, 0x10)?;
     for (k, byte) in TABLE.iter().enumerate() {
         file.push(if k == 0x17 { lane.log } else { *byte })?;
@@ -68,7 +75,7 @@ fn push_lane(file: &mut Vec<u8>, lane: Lane) -> Result<(), AllocError> {
 fn bank_file(alloc: Global, width: u8, device: u8, lanes: &[Lane]) -> Result<Vec<u8>, AllocError> {
     let mut file = Vec::new(alloc);
     file.extend_from_slice(b"NORBANK1")?;
-    file.extend_from_slice(&[width, device, lanes.len() as u8, 0])?;
+    file.extend_from_slice(&[width, device, low_byte(lanes.len()), 0])?;
     for lane in lanes {
         push_lane(&mut file, *lane)?;
     }
@@ -91,10 +98,19 @@ fn edited(alloc: Global, file: &[u8], at: usize, value: u8) -> Result<Vec<u8>, A
     Ok(edited)
 }
 
-fn refuses_each(rt: &impl Abort, alloc: Global, file: &[u8], edits: &[Edit]) -> Result<(), AllocError> {
+fn refuses_each(
+    rt: &impl Abort,
+    alloc: Global,
+    file: &[u8],
+    edits: &[Edit],
+) -> Result<(), AllocError> {
     for (at, value, refused) in edits {
         let edited = edited(alloc, file, *at, *value)?;
-        assert_eq!(rt; refusal(rt, alloc, &edited), *refused, "byte {at} as {value}");
+        assert_eq!(rt;
+            refusal(rt, alloc, &edited),
+            *refused,
+            "byte {at} as {value}"
+        );
     }
     Ok(())
 }
@@ -107,21 +123,59 @@ const fn bad(at: u32) -> Option<ImageError> {
 fn bad_fields_are_refused_at_their_places(rt: HostRuntime) -> Result<(), Fail> {
     let one = bank_file(rt.alloc(), 2, 1, &[RISES])?;
     assert_eq!(rt; one.len(), 8740);
-    refuses_each(&rt, rt.alloc(), &one, &[
-        (0, 0, Some(ImageError::BadMagic)), (7, 0x32, Some(ImageError::BadMagic)),
-        (8, 0, bad(8)), (8, 1, bad(10)), (8, 3, bad(8)), (8, 0x10, bad(8)), (8, 0xFF, bad(8)),
-        (9, 0, bad(10)), (9, 1, None), (9, 0x10, bad(9)), (9, 0xFF, bad(9)),
-        (10, 0, bad(10)), (10, 1, None), (10, 0x10, bad(10)), (10, 0xFF, bad(10)),
-        (11, 0, None), (11, 1, bad(11)), (11, 0x10, bad(11)), (11, 0xFF, bad(11)),
-        (20, 0x10, None), (20, 0x11, bad(20)), (21, 1, None), (21, 2, bad(21)), (23, 2, bad(22)),
-        (12, 0xFF, None), (24, 0xFF, None), (544, 1, bad(544)), (545, 0x10, bad(544)),
-        // the table names set 0002, or no size that a chip may have
-        (51, 2, Some(ImageError::NotBuilt)), (71, 0x20, None), (8739, 0, None),
-    ])?;
+    refuses_each(
+        &rt,
+        rt.alloc(),
+        &one,
+        &[
+            (0, 0, Some(ImageError::BadMagic)),
+            (7, 0x32, Some(ImageError::BadMagic)),
+            (8, 0, bad(8)),
+            (8, 1, bad(10)),
+            (8, 3, bad(8)),
+            (8, 0x10, bad(8)),
+            (8, 0xFF, bad(8)),
+            (9, 0, bad(10)),
+            (9, 1, None),
+            (9, 0x10, bad(9)),
+            (9, 0xFF, bad(9)),
+            (10, 0, bad(10)),
+            (10, 1, None),
+            (10, 0x10, bad(10)),
+            (10, 0xFF, bad(10)),
+            (11, 0, None),
+            (11, 1, bad(11)),
+            (11, 0x10, bad(11)),
+            (11, 0xFF, bad(11)),
+            (20, 0x10, None),
+            (20, 0x11, bad(20)),
+            (21, 1, None),
+            (21, 2, bad(21)),
+            (23, 2, bad(22)),
+            (12, 0xFF, None),
+            (24, 0xFF, None),
+            (544, 1, bad(544)),
+            (545, 0x10, bad(544)),
+            // the table names set 0002, or no size that a chip may have
+            (51, 2, Some(ImageError::NotBuilt)),
+            (71, 0x20, None),
+            (8739, 0, None),
+        ],
+    )?;
     let two = bank_file(rt.alloc(), 2, 0, &[RISES, FALLS])?;
-    refuses_each(&rt, rt.alloc(), &two, &[(51, 0, None), (9273, 0x10, bad(9272)), (8779, 2, None)])?;
+    refuses_each(
+        &rt,
+        rt.alloc(),
+        &two,
+        &[(51, 0, None), (9273, 0x10, bad(9272)), (8779, 2, None)],
+    )?;
     let smaller = edited(rt.alloc(), &two, 9273, 0x10)?;
-    refuses_each(&rt, rt.alloc(), &smaller, &[(8799, 0x0C, Some(ImageError::SizeDiffers { lane: 1 }))])?;
+    refuses_each(
+        &rt,
+        rt.alloc(),
+        &smaller,
+        &[(8799, 0x0C, Some(ImageError::SizeDiffers { lane: 1 }))],
+    )?;
     Ok(())
 }
 
@@ -130,10 +184,19 @@ fn weak_places_ascend_in_whole_units(rt: HostRuntime) -> Result<(), Fail> {
     let first = bad(548);
     let second = bad(552);
     let cases: [([u32; 2], Option<ImageError>); 6] = [
-        ([4, 8190], None), ([0, 2], None), ([4, 4], second), ([8, 4], second), ([5, 8], first), ([4, 8192], second),
+        ([4, 8190], None),
+        ([0, 2], None),
+        ([4, 4], second),
+        ([8, 4], second),
+        ([5, 8], first),
+        ([4, 8192], second),
     ];
     for (weak, refused) in &cases {
-        let lane = Lane { log: 13, weak: weak.as_slice(), falls: true };
+        let lane = Lane {
+            log: 13,
+            weak: weak.as_slice(),
+            falls: true,
+        };
         let file = bank_file(rt.alloc(), 2, 1, &[lane])?;
         assert_eq!(rt; refusal(&rt, rt.alloc(), &file), *refused);
     }
@@ -148,9 +211,15 @@ fn a_file_ends_where_its_last_record_does(rt: HostRuntime) -> Result<(), Fail> {
         let refused = Some(ImageError::Truncated { at: at as u32 });
         assert_eq!(rt; refusal(&rt, rt.alloc(), &file[..at]), refused);
     }
-    assert_eq!(rt; refusal(&rt, rt.alloc(), b"no"), Some(ImageError::Truncated { at: 2 }));
+    assert_eq!(rt;
+        refusal(&rt, rt.alloc(), b"no"),
+        Some(ImageError::Truncated { at: 2 })
+    );
     file.push(0)?;
-    assert_eq!(rt; refusal(&rt, rt.alloc(), &file), Some(ImageError::Trailing { at: 4644 }));
+    assert_eq!(rt;
+        refusal(&rt, rt.alloc(), &file),
+        Some(ImageError::Trailing { at: 4644 })
+    );
     Ok(())
 }
 
@@ -158,7 +227,12 @@ fn a_file_ends_where_its_last_record_does(rt: HostRuntime) -> Result<(), Fail> {
 fn each_width_has_its_bank(rt: HostRuntime) -> Result<(), Fail> {
     let lanes = [RISES, FALLS, RISES, FALLS];
     let mut found = [0; 4];
-    for (chips, width, device) in [(&lanes[..1], 1, 0), (&lanes[..2], 2, 0), (&lanes[..2], 4, 1), (&lanes[..], 8, 1)] {
+    for (chips, width, device) in [
+        (&lanes[..1], 1, 0),
+        (&lanes[..2], 2, 0),
+        (&lanes[..2], 4, 1),
+        (&lanes[..], 8, 1),
+    ] {
         let file = bank_file(rt.alloc(), width, device, chips)?;
         assert!(rt; file.len() <= 1 << 30);
         match read_image(rt.alloc(), &file) {
