@@ -1,5 +1,5 @@
 -- Cycles of a bus whose geometry is known.
-use Rattle.std.proofs.Common.{List, length, IsTrue, true, ◌==◌, ◌&&◌, ◌||◌, ◌≡◌, ◌<◌, ◌≤◌, ◌+◌, ◌-◌, ◌*◌, ℕ, zero, suc, replicate, slice_index, refl, sym, ap, subst, ◌∙◌, arith, Option, Some, None}
+use Rattle.std.proofs.Common.{not, false, Bool, List, length, IsTrue, true, ◌==◌, ◌&&◌, ◌||◌, ◌≡◌, ◌<◌, ◌≤◌, ◌+◌, ◌-◌, ◌*◌, ℕ, zero, suc, replicate, slice_index, refl, sym, ap, subst, ◌∙◌, arith, Option, Some, None}
 use Rattle.nor_cell.specs.Bits.{unit_len}
 use Rattle.nor_cell.specs.Chip.{ChipState, Part}
 use Rattle.nor_cell.specs.Wiring.{is_wiring}
@@ -8,9 +8,9 @@ use Rattle.nor_cell.specs.declared.device.Device.{Device}
 use Rattle.nor_cell.specs.declared.device.Device.TheVariants.{X8, X16, X16Byte}
 use Rattle.nor_word.specs.Word.{lane_of}
 use Rattle.nor_bus.specs.declared.bus.Armed.{Armed}
-use Rattle.nor_bus.specs.Bus.{IsBank, BusState, lane, lanes_of, nearer, more, wide}
+use Rattle.nor_bus.specs.Bus.{IsBank, BusState, lane, lanes_of, nearer, more, wide, fails, is_now}
 use Rattle.nor_bus.specs.Cycles.{KeepsLanes, Passes, BusFails}
-use Rattle.nor_bus.specs.Driven.{IsOwn, Went, Lost, spread}
+use Rattle.nor_bus.specs.Driven.{IsOwn, Nearer, Went, Lost, spread}
 
 pub keeps_then : (a b c : BusState) → KeepsLanes a b → KeepsLanes b c → KeepsLanes a c
 keeps_then a b c h k = record {
@@ -46,39 +46,90 @@ bank_kept width device a b h bank =
 pub own_kept : (width : ℕ) (g : Geometry) (a b : BusState) → KeepsLanes a b → IsOwn width g a → IsOwn width g b
 own_kept width g a b h own = record { bank = bank_kept width g.device a b h own.bank; count = h.count ∙ own.count }
 
+-- ---- cycles, and then some more
+
+nearer_one : (armed : Option Armed) → is_now armed ≡ false → Nearer 1 1 armed (nearer 1 armed)
+nearer_one None due = tt
+nearer_one (Some armed) due = let later : 0 < armed.after = grind (arith, due) in (omega arith, omega arith, refl)
+
+nearer_none : (armed : Option Armed) → Nearer 0 0 armed armed
+nearer_none None = tt
+nearer_none (Some armed) = (omega arith, omega arith, refl)
+
+nearer_then : (l m n o k q : ℕ) (x y z : Option Armed) → k ≤ l + n → m + o ≤ q → Nearer l m x y → Nearer n o y z → Nearer k q x z
+nearer_then l m n o k q None None None ge le a b = tt
+nearer_then l m n o k q None None (Some z) ge le a b = absurd b
+nearer_then l m n o k q None (Some y) z ge le a b = absurd a
+nearer_then l m n o k q (Some x) None z ge le a b = absurd a
+nearer_then l m n o k q (Some x) (Some y) None ge le a b = absurd b
+nearer_then l m n o k q (Some x) (Some y) (Some z) ge le a b =
+    let p = a.0 in let r = a.1 in let s = b.0 in let t = b.1 in (omega arith, omega arith, b.2 ∙ a.2)
+
+still_none : (l m : ℕ) (x y : Option Armed) → Nearer l m x y → x ≡ None → y ≡ None
+still_none l m None None a e = refl
+still_none l m None (Some y) a e = absurd a
+still_none l m (Some x) None a e = refl
+still_none l m (Some x) (Some y) a e = absurd (cc)
+
+not_due : (power due : Bool) → (not power || due) ≡ false → due ≡ false
+not_due true due e = e
+not_due false due e = cc
+
 -- one cycle
 pub went_one : (a b : BusState) → Passes a b → KeepsLanes a b → Went 1 1 a b
-went_one a b p k = record { made = 1; enough = omega arith; few = omega arith; power = p.power; armed = p.armed; cycles = p.cycles; failed = p.failed; kept = k }
+went_one a b p k = record {
+  power = λ on. p.power;
+  armed = subst (λ (x : Option Armed). Nearer 1 1 a.armed x) (sym p.armed) (nearer_one a.armed (not_due a.power (is_now a.armed) p.allowed));
+  enough = let e = p.cycles in omega arith;
+  few = let e = p.cycles in omega arith;
+  failed = p.failed;
+  kept = k;
+}
 
-nearer_then : (m n : ℕ) (armed : Option Armed) → nearer n (nearer m armed) ≡ nearer (m + n) armed
-nearer_then m n None = refl
-nearer_then m n (Some armed) = let e : armed.after - m - n ≡ armed.after - (m + n) = omega arith in ap (λ (k : ℕ). Some (record armed { after = k })) e
-
-more_then : (m n count : ℕ) → more n (more m count) ≡ more (m + n) count
-more_then m n count = omega arith
+-- no cycle
+pub went_none : (a : BusState) → Went 0 0 a a
+went_none a = record {
+  power = λ on. on;
+  armed = nearer_none a.armed;
+  enough = omega arith;
+  few = omega arith;
+  failed = refl;
+  kept = record { count = refl; each = λ c below. record { part = refl; size = refl; locks = refl; bytes = λ small. small } };
+}
 
 -- some cycles, and then some more
 pub went_then : (l m n o k q : ℕ) (a b c : BusState) → k ≤ l + n → m + o ≤ q → Went l m a b → Went n o b c → Went k q a c
 went_then l m n o k q a b c ge le x y = record {
-  made = x.made + y.made;
-  enough = let p : l ≤ x.made = x.enough in let r : n ≤ y.made = y.enough in omega arith;
-  few = let p : x.made ≤ m = x.few in let r : y.made ≤ o = y.few in omega arith;
-  power = y.power;
-  armed = y.armed ∙ (ap (nearer y.made) x.armed ∙ nearer_then x.made y.made a.armed);
-  cycles = y.cycles ∙ (ap (more y.made) x.cycles ∙ more_then x.made y.made a.cycles);
+  power = λ on. y.power (x.power on);
+  armed = nearer_then l m n o k q a.armed b.armed c.armed ge le x.armed y.armed;
+  enough = let p = x.enough in let r = y.enough in omega arith;
+  few = let p = x.few in let r = y.few in omega arith;
   failed = y.failed ∙ x.failed;
   kept = keeps_then a b c x.kept y.kept;
 }
 
+-- a cut was armed where a cycle failed
+due_was_armed : (power : Bool) (armed : Option Armed) → (not power || is_now armed) ≡ true → power ≡ true → armed ≡ None → ⊥
+due_was_armed true None due on none = cc
+due_was_armed true (Some armed) due on none = cc
+due_was_armed false armed due on none = cc
+
 -- the first cycle failed
-pub lost_one : (a b : BusState) → BusFails a b → KeepsLanes a b → Lost 1 a b
-lost_one a b f k = record { few = let e : b.cycles ≡ a.cycles = f.cycles in omega arith; power = f.power; failed = f.failed; kept = k }
+pub lost_one : (a b : BusState) → fails a ≡ true → BusFails a b → KeepsLanes a b → Lost 1 a b
+lost_one a b due f k = record {
+  power = f.power;
+  was_armed = due_was_armed a.power a.armed due;
+  few = let e = f.cycles in omega arith;
+  failed = f.failed;
+  kept = k;
+}
 
 -- Power went after some cycles.
 pub lost_then : (l m o q : ℕ) (a b c : BusState) → m + o ≤ q → Went l m a b → Lost o b c → Lost q a c
 lost_then l m o q a b c le w x = record {
-  few = let p : w.made ≤ m = w.few in let e : b.cycles ≡ more w.made a.cycles = w.cycles in let r : c.cycles < b.cycles + o = x.few in omega arith;
   power = x.power;
+  was_armed = λ on none. x.was_armed (w.power on) (still_none l m a.armed b.armed w.armed none);
+  few = let p = w.few in let r = x.few in omega arith;
   failed = subst (λ (n : ℕ). more 1 n ≤ c.failed) w.failed x.failed;
   kept = keeps_then a b c w.kept x.kept;
 }

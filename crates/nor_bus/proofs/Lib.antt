@@ -1,3 +1,5 @@
 pub mod Driving
 pub mod Mapped
 pub mod OneMore
+pub mod Sizes
+pub mod Words

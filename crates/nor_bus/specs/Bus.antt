@@ -2,6 +2,7 @@
 use Rattle.std.specs.Prelude.{◌≡◌, ◌<◌, ◌+◌, ◌*◌, ◌-◌, ◌^◌, ◌==◌, ◌||◌, min, not, ℕ, List, [], length, slice_index_or, Bool, false, Option, Some, None, IsTrue, slice_index, zero, suc, ◌∷◌}
 use Rattle.nor_cell.specs.Bits.{unit_len}
 use Rattle.nor_cell.specs.Chip.{ChipState, Array, Rest, Idle, NotHeld, NoFault, units}
+use Rattle.nor_cell.specs.Ranges.{is_chip_size}
 use Rattle.nor_cell.specs.Wiring.{is_wiring, lane_at, place_at}
 use Rattle.nor_cell.specs.declared.device.Set.TheVariants.{Intel}
 use Rattle.nor_cell.specs.declared.device.Device.{Device}
@@ -58,6 +59,12 @@ pub record IsBank (width : ℕ) (device : Device) (chips : List ChipState) : Typ
   pub wiring : IsTrue (is_wiring width (length chips) device)
   pub devices : (c : ℕ) → c < length chips → (chip_at chips c).part.device ≡ device
   pub sizes : (c : ℕ) → c < length chips → length (chip_at chips c).cells ≡ length (chip_at chips 0).cells
+
+-- What holds of every bus of words of so many bytes: its chips are a bank, of a size that a chip may have.
+pub record IsWired (width : ℕ) (bus : BusState) : Type 0 where
+  pub device : Device
+  pub bank : IsBank width device bus.lanes
+  pub size : IsTrue (is_chip_size (length (lane bus 0).cells))
 
 -- byte a of a bank of these chips: units of the device go round the chips
 abbrev pub bank_byte : Device → List ChipState → ℕ → ℕ

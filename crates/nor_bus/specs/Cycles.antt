@@ -3,7 +3,7 @@ use Rattle.std.specs.Prelude.{◌≡◌, ◌<◌, ◌≤◌, ℕ, true, false, L
 use Rattle.nor_cell.specs.Steps.{Reads, Keeps, written}
 use Rattle.nor_cell.specs.Power.{Cuts, powered}
 use Rattle.nor_word.specs.Word.{lane_of}
-use Rattle.nor_bus.specs.Bus.{BusState, lane, lanes_of, wide, nearer, more}
+use Rattle.nor_bus.specs.Bus.{BusState, lane, lanes_of, wide, nearer, more, fails}
 
 -- what no cycle changes, of each lane
 pub record KeepsLanes (old new : BusState) : Type 0 where
@@ -12,7 +12,7 @@ pub record KeepsLanes (old new : BusState) : Type 0 where
 
 -- A cycle reached the chips: what becomes of all but them.
 pub record Passes (old new : BusState) : Type 0 where
-  pub before : old.power ≡ true
+  pub allowed : fails old ≡ false
   pub power : new.power ≡ true
   pub armed : new.armed ≡ nearer 1 old.armed
   pub cycles : new.cycles ≡ more 1 old.cycles

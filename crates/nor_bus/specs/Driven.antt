@@ -1,9 +1,10 @@
 -- What a driver's call does to a bus.
-use Rattle.std.specs.Prelude.{◌≡◌, ◌<◌, ◌≤◌, ◌+◌, ◌*◌, ◌==◌, ℕ, true, false, if◌then◌else◌}
+use Rattle.std.specs.Prelude.{◌≡◌, ◌<◌, ◌≤◌, ◌+◌, ◌*◌, ◌==◌, ℕ, true, false, if◌then◌else◌, Option, Some, None}
+use Rattle.nor_bus.specs.declared.bus.Armed.{Armed}
 use Rattle.nor_cell.specs.Chip.{ChipState}
 use Rattle.nor_cell.specs.Steps.{written}
 use Rattle.nor_cell.specs.declared.geometry.Geometry.{Geometry}
-use Rattle.nor_bus.specs.Bus.{BusState, lane, lanes_of, wide, nearer, more, IsBank}
+use Rattle.nor_bus.specs.Bus.{BusState, lane, lanes_of, wide, more, IsBank}
 use Rattle.nor_bus.specs.Cycles.{KeepsLanes}
 
 -- The geometry is the bus's own.
@@ -11,21 +12,27 @@ pub record IsOwn (width : ℕ) (g : Geometry) (bus : BusState) : Type 0 where
   pub bank : IsBank width g.device bus.lanes
   pub count : lanes_of bus ≡ g.lanes
 
--- All cycles of a call went well: from `least` to `most` of them.
+-- an armed cut that is from `least` to `most` cycles nearer
+abbrev pub Nearer : (least most : ℕ) → Option Armed → Option Armed → Type 0
+Nearer least most None None = Unit {0}
+Nearer least most (Some old) (Some new) = (new.after + least ≤ old.after) × (old.after ≤ new.after + most) × (new.mask ≡ old.mask)
+Nearer least most None (Some new) = ⊥
+Nearer least most (Some old) None = ⊥
+
+-- All cycles of a call reached the chips: from `least` to `most` of them.
 pub record Went (least most : ℕ) (old new : BusState) : Type 0 where
-  pub made : ℕ
-  pub enough : least ≤ made
-  pub few : made ≤ most
-  pub power : new.power ≡ true
-  pub armed : new.armed ≡ nearer made old.armed
-  pub cycles : new.cycles ≡ more made old.cycles
+  pub power : old.power ≡ true → new.power ≡ true
+  pub armed : Nearer least most old.armed new.armed
+  pub enough : more least old.cycles ≤ new.cycles
+  pub few : new.cycles ≤ old.cycles + most
   pub failed : new.failed ≡ old.failed
   pub kept : KeepsLanes old new
 
--- A cycle of a call failed, as power went or was off. Together with those before it there were at most so many.
+-- A cycle of a call failed, as power went or was off. Together with those before it there were at most `most`.
 pub record Lost (most : ℕ) (old new : BusState) : Type 0 where
-  pub few : new.cycles < old.cycles + most
   pub power : new.power ≡ false
+  pub was_armed : old.power ≡ true → old.armed ≡ None → ⊥
+  pub few : new.cycles < old.cycles + most
   pub failed : more 1 old.failed ≤ new.failed
   pub kept : KeepsLanes old new
 

@@ -1,7 +1,5 @@
-ghost use Rattle.std.specs.Prelude.{◌≡◌, ◌<◌, ◌≤◌, ◌/◌, ℕ, true, false, Some, IfOk, OnOk, OnErr, IsErr, ◌↔◌, IsTrue, length};
-ghost use Rattle.nor_cell.specs.Ranges.{is_chip_size};
-ghost use Rattle.nor_cell.specs.declared.device.Device.{Device};
-ghost use Rattle.nor_bus.specs.Bus.{BusState, fails, lane, units_of, IsBank};
+ghost use Rattle.std.specs.Prelude.{◌≡◌, ◌<◌, ◌≤◌, ◌/◌, ℕ, true, false, Some, IfOk, OnOk, OnErr, IsErr, ◌↔◌};
+ghost use Rattle.nor_bus.specs.Bus.{BusState, fails, units_of, IsWired};
 ghost use Rattle.nor_bus.specs.Cycles.{BusReads, BusWrites, BusFails, KeepsLanes, PowersOn};
 
 use nor_word::BusWord;
@@ -29,8 +27,7 @@ pub trait Bus<W: BusWord> {
     /// and are alike.
     fn units(&self) -> u32
         ensures count { result ≡ units_of (state self.now) }
-        ensures wired { (device : Device) × IsBank W.WIDTH device (state self.now).lanes }
-        ensures sized { IsTrue (is_chip_size (length (lane (state self.now) 0).cells)) };
+        ensures wired { IsWired W.WIDTH (state self.now) };
 
     /// One read cycle. Its count stays at its last value once there, and so does that of failed cycles.
     fn read(&mut self, at: u32) -> Result<W, Off>

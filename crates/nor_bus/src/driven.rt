@@ -1,8 +1,7 @@
 ghost use Rattle.std.specs.Prelude.{◌≡◌, ◌<◌, ◌↔◌, ℕ, IfOk, OnOk, OnErr, IsErr, true};
 ghost use Rattle.nor_cell.specs.Steps.{Reads, written};
 ghost use Rattle.nor_word.specs.Word.{lane_of};
-ghost use Rattle.nor_bus.specs.Bus.{units_of, lane, lanes_of, wide, fails, IsBank};
-ghost use Rattle.nor_cell.specs.declared.device.Device.{Device};
+ghost use Rattle.nor_bus.specs.Bus.{units_of, lane, lanes_of, wide, fails, IsWired};
 ghost use Rattle.nor_bus.specs.Cycles.{BusFails};
 ghost use Rattle.nor_bus.specs.Driven.{Went, Lost, EachLane, TakesCode};
 
@@ -13,7 +12,7 @@ use nor_word::BusWord;
 fn wrapped<W: BusWord, B: Bus<W>>(bus: &B, at: u32) -> u32
     ensures within { result < units_of (B.state bus.now) }
     ensures same { at < units_of (B.state bus.now) → result ≡ at }
-    ensures wired { (device : Device) × IsBank W.WIDTH device (B.state bus.now).lanes }
+    ensures wired { IsWired W.WIDTH (B.state bus.now) }
 {
     at % bus.units()
 }
@@ -27,6 +26,7 @@ pub fn write_code<W: BusWord, B: Bus<W>>(bus: &mut B, at: u32, code: u8) -> Resu
     ensures fails { OnErr result (BusFails (B.state bus.old) (B.state bus.new)) }
     ensures off { IsErr result ↔ (fails (B.state bus.old) ≡ true) }
     ensures units { units_of (B.state bus.new) ≡ units_of (B.state bus.old) }
+    ensures wired { IsWired W.WIDTH (B.state bus.old) }
 {
     let there = wrapped::<W, B>(bus, at);
     bus.write(there, W::splat(code))?;
@@ -41,6 +41,7 @@ pub fn write_word<W: BusWord, B: Bus<W>>(bus: &mut B, at: u32, word: W) -> Resul
     ensures fails { OnErr result (BusFails (B.state bus.old) (B.state bus.new)) }
     ensures off { IsErr result ↔ (fails (B.state bus.old) ≡ true) }
     ensures units { units_of (B.state bus.new) ≡ units_of (B.state bus.old) }
+    ensures wired { IsWired W.WIDTH (B.state bus.old) }
 {
     let there = wrapped::<W, B>(bus, at);
     bus.write(there, word)?;
@@ -55,6 +56,7 @@ pub fn read_word<W: BusWord, B: Bus<W>>(bus: &mut B, at: u32) -> Result<W, Off>
     ensures fails { OnErr result (BusFails (B.state bus.old) (B.state bus.new)) }
     ensures off { IsErr result ↔ (fails (B.state bus.old) ≡ true) }
     ensures units { units_of (B.state bus.new) ≡ units_of (B.state bus.old) }
+    ensures wired { IsWired W.WIDTH (B.state bus.old) }
 {
     let there = wrapped::<W, B>(bus, at);
     let word = bus.read(there)?;

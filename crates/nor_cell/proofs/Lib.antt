@@ -1,3 +1,4 @@
+pub mod Resting
 pub mod Breaking
 pub mod Changing
 pub mod Cutting

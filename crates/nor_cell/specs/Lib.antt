@@ -7,6 +7,7 @@ pub mod Look
 pub mod Machine
 pub mod Power
 pub mod Ranges
+pub mod Resting
 pub mod Simulated
 pub mod Steps
 pub mod Table

@@ -32,8 +32,8 @@ Saves None name bytes new = new ≡ None
 Saves (Some old) name bytes new = IsSomeAnd new (Puts old name bytes)
 
 -- a list is the first part of another
-abbrev pub IsPrefix : List ℕ → List ℕ → Type 0
-IsPrefix part whole = (rest : List ℕ) × (part ++ rest ≡ whole)
+abbrev pub IsPrefix : {X : Type 0} → List X → List X → Type 0
+IsPrefix {X} part whole = (rest : List X) × (part ++ rest ≡ whole)
 
 -- the bytes stand behind those taken before, where these are told; a sink that tells none still tells none
 abbrev pub Appends : Option (List ℕ) → List ℕ → Option (List ℕ) → Type 0

@@ -65,7 +65,8 @@ pub trait Shelf {
     /// The bytes under the name, at most [`MAX_FILE`] of them. No file changes.
     ///
     /// `Absent` comes only where a told shelf has no such name, `TooLarge` only where its file has
-    /// more than `MAX_FILE` bytes, and `ReadFault` only where the count of faults rose.
+    /// more than `MAX_FILE` bytes (and such a file never comes as `Ok`), and `ReadFault` only where
+    /// the count of faults rose, or stands at its last value.
     fn load(&mut self, alloc: Global, name: &str) -> Result<Vec<u8>, LoadError>
         ensures found { IfOk result (λ v. HasFile (files self.old) name.now v.items) }
         ensures small { IfOk result (λ v. vec_len v ≤ 2 ^ 30) }
@@ -77,8 +78,8 @@ pub trait Shelf {
 
     /// Puts the bytes under the name. Every other name keeps what it has.
     ///
-    /// `WriteFault` comes only where the count of faults rose. After an error a told shelf is as it
-    /// was.
+    /// `WriteFault` comes only where the count of faults rose, or stands at its last value. After an
+    /// error a told shelf is as it was.
     fn save(&mut self, name: &str, bytes: &[u8]) -> Result<(), SaveError>
         ensures ok { OnOk result (Saves (files self.old) name.now bytes.now (files self.new)) }
         ensures err { OnErr result (files self.new ≡ files self.old) }

@@ -35,8 +35,8 @@ pub trait Sink {
 
     /// Takes all of the bytes.
     ///
-    /// `Fault` comes only where the count of faults rose, and then a first part of the bytes was
-    /// taken. After `NoMemory` nothing was.
+    /// `Fault` comes only where the count of faults rose, or stands at its last value, and then a
+    /// first part of the bytes was taken. After `NoMemory` nothing was.
     fn put(&mut self, bytes: &[u8]) -> Result<(), SinkError>
         ensures ok { OnOk result (Appends (taken self.old) bytes.now (taken self.new)) }
         ensures part { IsErrOf result SinkError.Fault → AppendsPart (taken self.old) bytes.now (taken self.new) }

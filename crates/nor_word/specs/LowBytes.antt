@@ -1,5 +1,5 @@
 -- The low bytes of a number, as a list.
-use Rattle.std.proofs.Common.{◌≡◌, ◌<◌, ℕ, zero, suc, List, length, slice_index, ap, refl, lit<, arith}
+use Rattle.std.proofs.Common.{◌≡◌, ◌<◌, ℕ, zero, suc, length, slice_index, ap, refl, lit<, arith}
 use Rattle.std.specs.Int.{bytes_low_first, byte_at}
 
 -- there are as many as were asked for

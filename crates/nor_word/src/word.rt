@@ -1,9 +1,13 @@
-ghost use Rattle.std.proofs.Common.{lit≤};
+ghost use Rattle.std.proofs.Common.{lit≤, refl};
 ghost use Rattle.std.specs.Prelude.{◌≡◌, ◌<◌, ◌≤◌, ◌↔◌, ℕ, List, IsTrue, length, slice_index, slice_set, replicate, bit_and};
 ghost use Rattle.std.specs.Int.{w8, w16, w32, w64, to_le_bytes};
 ghost use Rattle.nor_word.specs.LowBytes.{size_of_bytes, small_bytes};
+ghost use Rattle.nor_word.specs.Word.{is_width};
 
 /// A word of the bus, seen as its bytes, the lowest first.
+///
+/// [`equals`](BusWord::equals) is how the trait says that two words are the same exactly where all
+/// their bytes are. [`and`](BusWord::and) is written and proved once, for every width.
 pub trait BusWord: Copy + Eq + Drop {
     ghost bytes: { Self → List ℕ };
 
@@ -31,6 +35,8 @@ pub trait BusWord: Copy + Eq + Drop {
         ensures { IsTrue result ↔ (bytes self ≡ bytes other) };
 
     ghost wide: { (w : Self) → length (bytes w) ≡ WIDTH };
+
+    ghost sized: { IsTrue (is_width WIDTH) };
 
     ghost narrow: { WIDTH ≤ 8 };
 
@@ -75,6 +81,8 @@ impl BusWord for u8 {
 
     ghost wide = { size_of_bytes 0 1 };
 
+    ghost sized = { refl };
+
     ghost narrow = { lit≤ tt };
 
     ghost small = { small_bytes 0 1 };
@@ -106,6 +114,8 @@ impl BusWord for u16 {
     }
 
     ghost wide = { size_of_bytes 0 2 };
+
+    ghost sized = { refl };
 
     ghost narrow = { lit≤ tt };
 
@@ -139,6 +149,8 @@ impl BusWord for u32 {
 
     ghost wide = { size_of_bytes 0 4 };
 
+    ghost sized = { refl };
+
     ghost narrow = { lit≤ tt };
 
     ghost small = { small_bytes 0 4 };
@@ -170,6 +182,8 @@ impl BusWord for u64 {
     }
 
     ghost wide = { size_of_bytes 0 8 };
+
+    ghost sized = { refl };
 
     ghost narrow = { lit≤ tt };
 

@@ -4,6 +4,7 @@ use Rattle.nor_word.specs.Word.{lane_of}
 use Rattle.nor_bus.specs.Bus.{lane, wide}
 use Rattle.nor_bus.specs.Driven.{spread}
 use Rattle.nor_bus.proofs.Driving.{splat_there}
+use Rattle.nor_bus.proofs.Driving.{went_one}
 use Rattle.nor_bus.proofs.driven.write_code.Goals as goal
 
 pub returns-clause-lanes : goal.returns-clause-lanes
@@ -12,6 +13,9 @@ returns-clause-lanes g c = λ below k there.
     let new = g.B.Bus.state c.write.new.self in
     let wired = c.wrapped-there.ensures.wired in
     let code : lane_of (wide (lane old k)) (g.W.BusWord.bytes c.splat.result) k ≡ spread (wide (lane old k)) c.args.code =
-        ap (λ word. lane_of (wide (lane old k)) word k) c.splat.ensures ∙ splat_there g.W.BusWord.WIDTH wired.0 old k c.args.code wired.1 there in
+        ap (λ word. lane_of (wide (lane old k)) word k) c.splat.ensures ∙ splat_there g.W.BusWord.WIDTH wired.device old k c.args.code wired.bank there in
     subst (λ (v : ℕ). lane new k ≡ written (lane old k) c.args.at v) code
     (subst (λ (u : ℕ). lane new k ≡ written (lane old k) u (lane_of (wide (lane old k)) (g.W.BusWord.bytes c.splat.result) k)) (c.wrapped-there.ensures.same below) (c.in_ok-write.ensures.writes.each k there))
+
+pub returns-clause-went : goal.returns-clause-went
+returns-clause-went g c = went_one _ _ c.in_ok-write.ensures.writes.passes c.in_ok-write.ensures.kept

@@ -1,4 +1,4 @@
-use Rattle.std.proofs.Common.{refl, arith, ◌∙◌, ◌≡◌, ◌<◌, bit_and, slice_set, rules, subst, sym, ℕ}
+use Rattle.std.proofs.Common.{refl, arith, ◌∙◌}
 use Rattle.nor_word.proofs.Anding.{and_more, and_all}
 use Rattle.nor_word.proofs.word.BusWord.and.Goals as goal
 

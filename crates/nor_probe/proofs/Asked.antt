@@ -1,0 +1,60 @@
+-- One chip that is asked, and the word of several.
+use Rattle.std.proofs.Common.{Result, Ok, Err, OnErr, ◌≡◌, ◌<◌, ◌≤◌, ◌+◌, ◌*◌, ◌%◌, ◌==◌, ℕ, List, length, slice_index, refl, sym, ap, subst, ◌∙◌, arith, if◌then◌else◌, Bool, true, false, ◌⊎◌, inl, inr}
+use Rattle.nor_cell.specs.Bits.{unit_len, AreBytes}
+use Rattle.nor_cell.specs.Chip.{ChipState, Query}
+use Rattle.nor_cell.specs.Resting.{IsResting, IsShown, reset}
+use Rattle.nor_cell.specs.Intel.{query_at}
+use Rattle.nor_cell.specs.Steps.{Reads, written}
+use Rattle.nor_cell.specs.declared.device.Device.{Device}
+use Rattle.nor_cell.specs.declared.device.Device.TheVariants.{X8, X16, X16Byte}
+use Rattle.nor_cell.proofs.Resting.{resets, enters_query, reads_query, reset_shows}
+use Rattle.nor_word.specs.Word.{lane_of}
+use Rattle.nor_bus.specs.Bus.{BusState, IsWired, IsBank, lane, lanes_of, wide, chip_at}
+use Rattle.nor_bus.specs.Driven.{TakesCode, AllLanes, spread}
+use Rattle.nor_bus.specs.Words.{query_word}
+use Rattle.nor_bus.proofs.Driving.{fills_word}
+use Rattle.nor_bus.proofs.Words.{word_is}
+use Rattle.nor_probe.specs.Asking.{Resets, Enters, Asks, ShowsQuery, Stays}
+
+spread_by : (device : Device) (code : ℕ) → code < 256 → spread (unit_len device) code % 256 ≡ code
+spread_by X8 code small = omega arith
+spread_by X16 code small = omega arith
+spread_by X16Byte code small = omega arith
+
+-- the low byte of what a lane takes is the code
+low_code : (s : ChipState) (code : ℕ) → code < 256 → spread (wide s) code % 256 ≡ code
+low_code s code small = spread_by s.part.device code small
+
+-- two reset codes
+pub both_resets : (s m t : ChipState) → TakesCode 0 0xF0 s m → TakesCode 0 0xFF m t → Resets s t
+both_resets s m t first second = λ is.
+    second ∙ (ap (λ (x : ChipState). written x 0 (spread (wide m) 0xFF)) first
+    ∙ resets s 0 (spread (wide s) 0xF0) (spread (wide m) 0xFF) is (low_code s 0xF0 (omega arith)) (low_code m 0xFF (omega arith)))
+
+-- the query code at both addresses
+pub both_enter : (s m t : ChipState) → TakesCode 0x55 0x98 s m → TakesCode 0xAA 0x98 m t → Enters s t
+both_enter s m t first second = λ is.
+    second ∙ (ap (λ (x : ChipState). written x 0xAA (spread (wide m) 0x98)) first
+    ∙ enters_query s (spread (wide s) 0x98) (spread (wide m) 0x98) is (low_code s 0x98 (omega arith)) (low_code m 0x98 (omega arith)))
+
+-- a read of a chip that shows its query table
+pub stays : (s t : ChipState) (u answer : ℕ) → Reads s u answer t → Stays s t
+stays s t u answer reads = λ is. (reads_query s t u answer is.mode is.job is.fault reads).0
+
+-- The word of chips that show their query tables.
+pub query_is : (width : ℕ) (bus : BusState) (new : BusState) (u : ℕ) (word : List ℕ) → IsWired width bus → AllLanes ShowsQuery bus
+    → length word ≡ width → AreBytes word
+    → ((c : ℕ) → c < lanes_of bus → Reads (lane bus c) u (lane_of (wide (lane bus c)) word c) (lane new c)) → word ≡ query_word bus.lanes u
+query_is width bus new u word wired shows size small reads =
+    let device = wired.device in
+    let bank = wired.bank in
+    word_is device (λ s. query_at s.part u) bus.lanes word (λ c below. bank.devices c below) (size ∙ sym (fills_word width device bus.lanes bank)) small
+    (λ c below.
+        let is = shows c below in
+        let answer : lane_of (wide (lane bus c)) word c ≡ query_at (lane bus c).part u = (reads_query (lane bus c) (lane new c) u _ is.mode is.job is.fault (reads c below)).1 in
+        subst (λ (d : ℕ). lane_of d word c ≡ query_at (lane bus c).part u) (ap unit_len (bank.devices c below)) answer)
+
+-- a fact after an error
+pub on_err : {T E : Type 0} (r : Result T E) (P : Type 0) → P → OnErr r P
+on_err (Ok x) P p = tt
+on_err (Err e) P p = p

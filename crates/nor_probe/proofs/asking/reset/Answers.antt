@@ -1,0 +1,21 @@
+use Rattle.std.proofs.Common.{◌≡◌, ◌<◌, ℕ, arith}
+use Rattle.nor_bus.proofs.Driving.{went_then}
+use Rattle.nor_bus.proofs.Sizes.{bus_units}
+use Rattle.nor_bus.specs.Bus.{lane}
+use Rattle.nor_probe.proofs.Asked.{both_resets}
+use Rattle.nor_probe.proofs.asking.reset.Goals as goal
+
+pub returns-clause-lanes : goal.returns-clause-lanes
+returns-clause-lanes g c = λ k below.
+    let old = g.B.Bus.state c.args.bus.now in
+    let mid = g.B.Bus.state c.write_code.new.bus in
+    let new = g.B.Bus.state c.write_code-2.new.bus in
+    let size = bus_units g.W.BusWord.WIDTH old c.write_code.ensures.wired in
+    let units = c.write_code.ensures.units in
+    let count = c.in_ok-write_code.ensures.went.kept.count in
+    both_resets (lane old k) (lane mid k) (lane new k) (c.in_ok-write_code.ensures.lanes (omega arith) k below) (c.in_ok-write_code-2.ensures.lanes (omega arith) k (omega arith))
+
+pub returns-clause-went : goal.returns-clause-went
+returns-clause-went g c =
+    went_then 1 1 1 1 2 2 (g.B.Bus.state c.args.bus.now) (g.B.Bus.state c.write_code.new.bus) (g.B.Bus.state c.write_code-2.new.bus) (omega arith) (omega arith)
+    c.in_ok-write_code.ensures.went c.in_ok-write_code-2.ensures.went
