@@ -7,12 +7,11 @@ use Rattle.nor_cell.specs.Power.{powered}
 use Rattle.nor_cell.specs.Wiring.{is_wiring}
 use Rattle.nor_cell.specs.declared.cells.Cells.{Cells}
 use Rattle.nor_cell.specs.declared.device.Device.{Device}
-use Rattle.nor_cell.specs.declared.device.Set.{Set}
-use Rattle.nor_cell.specs.declared.device.Set.TheVariants.{Intel, Amd}
+use Rattle.nor_cell.specs.declared.device.Set.TheVariants.{Intel}
 use Rattle.nor_bus.specs.Bus.{IsBank, chip_at}
 use Rattle.nor_bus.proofs.Mapped.{state_there}
 use Rattle.nor_image.specs.Image.{image_refusal, width_of, device_of, lanes_of_file, machine_of, table_in, IsImageOf, IsCause}
-use Rattle.nor_image.specs.Reading.{IsRefusal, AreChips, chips_of}
+use Rattle.nor_image.specs.Reading.{IsRefusal, AreChips, AreLanes, chips_of}
 use Rattle.nor_image.specs.declared.error.ImageError.{ImageError}
 use Rattle.nor_image.specs.declared.error.ImageError.TheVariants.{BadMagic, BadHeader, Truncated, Trailing, SizeDiffers, NotBuilt, NoMemory}
 
@@ -22,36 +21,35 @@ some_lanes width zero device h = absurd (cc)
 some_lanes width (suc n) device h = omega arith
 
 -- as many chips as cells
-pub as_many : (set : Set) (lanes : List Cells) → length (chips_of set lanes) ≡ length lanes
-as_many set lanes = length-map lanes (λ (c : Cells). powered (chip_of set c))
+as_many : (lanes : List Cells) → length (chips_of Intel lanes) ≡ length lanes
+as_many lanes = length-map lanes (λ (c : Cells). powered (chip_of Intel c))
 
--- the table of lane 0
-pub first_table : (file : List ℕ) (n : ℕ) (lanes : List Cells) (first : Cells) → AreChips file Intel n (chips_of Intel lanes)
-    → 0 < length lanes → first ≡ get_or lanes 0 first → first.table ≡ table_in file 12
-first_table file n lanes first so some is =
-    let below : 0 < n = (let same = as_many Intel lanes in let long = so.count in omega arith) in
-    sym (ap (λ (s : ChipState). s.part.table) (state_there (λ (c : Cells). powered (chip_of Intel c)) lanes 0 first some is))
-    ∙ ap (λ (s : ChipState). s.part.table) (so.each 0 below)
+-- so lane 0 is there
+pub lane_0 : (file : List ℕ) (lanes : List Cells) → AreLanes file lanes → 0 < lanes_of_file file → 0 < length lanes
+lane_0 file lanes so some = let many = as_many lanes in let count = (so Intel).count in omega arith
+
+-- its table names the set of all
+pub first_table : (file : List ℕ) (lanes : List Cells) (first : Cells) → AreLanes file lanes → 0 < lanes_of_file file
+    → first ≡ get_or lanes 0 first → first.table ≡ table_in file 12
+first_table file lanes first so some is =
+    sym (ap (λ (s : ChipState). s.part.table) (state_there (λ (c : Cells). powered (chip_of Intel c)) lanes 0 first (lane_0 file lanes so some) is))
+    ∙ ap (λ (s : ChipState). s.part.table) ((so Intel).each 0 some)
 
 -- the chips are a bank
-pub is_bank : (file : List ℕ) (n : ℕ) (chips : List ChipState) → AreChips file Intel n chips
-    → IsTrue (is_wiring (width_of file) n (device_of file)) → 0 < n → IsBank (width_of file) (device_of file) chips
-is_bank file n chips so wired some = record {
+pub is_bank : (file : List ℕ) (chips : List ChipState) → AreChips file Intel (lanes_of_file file) chips
+    → IsTrue (is_wiring (width_of file) (lanes_of_file file) (device_of file)) → IsBank (width_of file) (device_of file) chips
+is_bank file chips so wired = record {
   wiring = subst (λ (k : ℕ). IsTrue (is_wiring (width_of file) k (device_of file))) (sym so.count) wired;
   devices = λ c below. ap (λ (s : ChipState). s.part.device) (so.each c (subst (λ (k : ℕ). c < k) so.count below));
-  sizes = λ c below. so.sizes c (subst (λ (k : ℕ). c < k) so.count below) ∙ sym (so.sizes 0 some);
+  sizes = λ c below. so.sizes c (subst (λ (k : ℕ). c < k) so.count below) ∙ sym (so.sizes 0 (some_lanes (width_of file) (lanes_of_file file) (device_of file) wired));
 }
-
-not_amd : (set : Set) → set ≢ Amd → set ≡ Intel
-not_amd Intel h = refl
-not_amd Amd h = absurd (h refl)
 
 -- they are the file's bank
 pub is_image : (file : List ℕ) (chips : List ChipState) → AreChips file Intel (lanes_of_file file) chips → image_refusal file ≡ None
-    → machine_of file ≢ Amd → IsImageOf file Intel (device_of file) chips
-is_image file chips so formed other = record {
+    → machine_of file ≡ Intel → IsImageOf file Intel (device_of file) chips
+is_image file chips so formed named = record {
   well_formed = formed;
-  machine = not_amd (machine_of file) other;
+  machine = named;
   wired = refl;
   count = so.count;
   each = λ c below. so.each c (subst (λ (k : ℕ). c < k) so.count below);

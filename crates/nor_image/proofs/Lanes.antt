@@ -67,7 +67,7 @@ lanes_more file n at next lanes more cells so right stored further pushed =
       behind = omega arith;
       within = omega arith;
       none = ap (λ (k : ℕ). first_refusal file (fields_before file k)) (add-one n)
-      ∙ (goes_on file (fields_before file n) (record_fields file n (record_place file n)) so.none ∙ right');
+          ∙ (goes_on file (fields_before file n) (record_fields file n (record_place file n)) so.none ∙ right');
       chips = chips;
     }
 

@@ -10,7 +10,7 @@ use Rattle.nor_io.specs.Fields.{u32_at}
 use Rattle.nor_image.specs.Image.{weak_in, weak_field, weak_fields, weak_field_at, least_weak, is_weak_place, first_refusal, refusal_of}
 use Rattle.nor_image.specs.declared.error.ImageError.{ImageError}
 use Rattle.nor_image.proofs.Refusals.{goes_on, or_none, or_some, stays}
-use Rattle.nor_image.proofs.Tests.{both, join}
+use Rattle.nor_image.proofs.Joined.{both, join}
 
 -- so many weak places were read and none refused; the next one is to be no less than `least`
 pub record AreWeak (file : List ℕ) (device : Device) (at size k least : ℕ) (places : List ℕ) : Type 0 where

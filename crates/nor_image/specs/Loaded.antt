@@ -19,7 +19,7 @@ loaded_width (Intel32 bank) = 4
 loaded_width (Intel64 bank) = 8
 
 -- It has power, with no cut armed and no cycle made.
-pub record IsFresh (bus : BusState) : Type 0 where
+pub record IsFreshBus (bus : BusState) : Type 0 where
   pub power : bus.power ≡ true
   pub armed : bus.armed ≡ None
   pub cycles : bus.cycles ≡ 0

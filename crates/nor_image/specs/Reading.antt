@@ -76,3 +76,7 @@ pub record AreChips (file : List ℕ) (set : Set) (n : ℕ) (chips : List ChipSt
   pub each : (c : ℕ) → c < n → chip_at chips c ≡ chip_in file set (device_of file) (record_place file c)
   pub sizes : (c : ℕ) → c < n → length (chip_at chips c).cells ≡ size_in file 12
   pub bytes : (c : ℕ) → c < n → AreBytes (chip_at chips c).cells
+
+-- The cells of all records, whichever set they are to be powered on with.
+abbrev pub AreLanes : List ℕ → List Cells → Type 0
+AreLanes file lanes = (set : Set) → AreChips file set (lanes_of_file file) (chips_of set lanes)

@@ -1,11 +1,43 @@
-//! The file of a bank: read field by field, with each refusal at its place.
+//! The bank file: the header, and then one record for each lane's chip. Numbers are little-endian.
+//!
+//! | Place | Bytes | Header |
+//! |---|---|---|
+//! | 0 | 8 | `NORBANK1` |
+//! | 8 | 1 | width of the bus in bytes: 1, 2, 4 or 8 |
+//! | 9 | 1 | device: 0 X8, 1 X16, 2 X16Byte |
+//! | 10 | 1 | lanes, so that the three are one of the nine wirings |
+//! | 11 | 1 | 0 |
+//!
+//! | Within | Bytes | Record, the first at place 12 |
+//! |---|---|---|
+//! | 0 | 4 | program pace |
+//! | 4 | 4 | erase pace |
+//! | 8 | 1 | suspend pace, 0 to 16 |
+//! | 9 | 1 | stuck, 0 or 1 |
+//! | 10 | 2 | number n of weak places, 0 to 256 |
+//! | 12 | 4 | how often an erase was suspended |
+//! | 16 | 4 | how many erases there were |
+//! | 20 | 512 | query table |
+//! | 532 | 4 | size in bytes: a power of two from 2^12 to 2^27, and that of the table where it gives one |
+//! | 536 | 4n | weak places: strictly ascending, each at a unit's first byte, below the size |
+//! | 536 + 4n | size | cells |
+//!
+//! All chips have lane 0's size, and are of the set that lane 0's table names. Locks, modes and jobs
+//! aren't stored: a bank that is loaded was just powered on.
+//!
+//! [`read_image`] answers such a bank exactly where the file is well formed, and else the first
+//! refusal, field by field, at its place. `specs/Image.antt` has the format as the list of a file's
+//! fields, each with its place, its length and what its value is refused with, and the chip that a
+//! record stores. Each step of the reader is proved against the fields that it reads. Chips of set
+//! 0002 aren't built yet: their files are read to the end and then answered `NotBuilt`.
+//!
+//! It stands on nor_cell and nor_intel for the chips, nor_bus for the bank, and nor_io for fields.
 #![tactic(auto)]
 
 mod error;
 mod fields;
 mod header;
 mod loaded;
-mod machine;
 mod read;
 mod record;
 mod size;
@@ -13,3 +45,6 @@ mod size;
 pub use error::ImageError;
 pub use loaded::Loaded;
 pub use read::read_image;
+
+#[cfg(test)]
+mod tests;

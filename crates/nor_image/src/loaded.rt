@@ -1,7 +1,7 @@
 use nor_bus::SimBank;
 use nor_intel::Intel;
 
-/// The bank of a file, by its chips' set and the width of its bus in bits.
+/// The bank that a file stands for, by its chips' set and by how many bits its bus word has.
 #[derive(Drop)]
 pub enum Loaded {
     Intel8(SimBank<u8, Intel>),

@@ -1,20 +1,15 @@
-ghost use Rattle.std.specs.Prelude.{◌≡◌, ◌<◌, ◌≤◌, ◌^◌, ℕ, length, IfOk, IfErr, IsTrue, None, vec_len};
+ghost use Rattle.std.specs.Prelude.{◌≡◌, ◌<◌, ◌≤◌, ◌^◌, ℕ, length, IfOk, IfErr, None};
 ghost use Rattle.nor_cell.specs.Bits.{AreBytes};
-ghost use Rattle.nor_cell.specs.Chip.{ChipState};
-ghost use Rattle.nor_cell.specs.Wiring.{is_wiring};
-ghost use Rattle.nor_cell.specs.declared.device.Set.{Set};
-ghost use Rattle.nor_cell.specs.declared.device.Set.TheVariants.{Intel as IntelSet};
 ghost use Rattle.nor_bus.specs.Bus.{IsBank, lane as lane_of_bus, lanes_of};
-ghost use Rattle.nor_image.specs.Image.{header_fields, first_refusal, image_refusal, device_of, width_of, lanes_of_file, machine_of, IsImageOf, IsCause};
-ghost use Rattle.nor_image.specs.Loaded.{bus_of, loaded_width, IsFresh};
-ghost use Rattle.nor_image.specs.Reading.{MayRead, AreChips, chips_of};
+ghost use Rattle.nor_image.specs.Image.{header_fields, first_refusal, image_refusal, device_of, width_of, lanes_of_file, IsImageOf, IsCause};
+ghost use Rattle.nor_image.specs.Loaded.{bus_of, loaded_width, IsFreshBus};
+ghost use Rattle.nor_image.specs.Reading.{MayRead, AreLanes, chips_of};
 
 use crate::header::read_header;
-use crate::machine::names_amd;
 use crate::record::{FIRST_RECORD, FIXED_PART, read_record};
 use crate::{ImageError, Loaded};
 use nor_bus::SimBank;
-use nor_cell::{Cells, Device, Geometry, NoMemory};
+use nor_cell::{Cells, Device, Geometry, NoMemory, Set, set_of};
 use nor_intel::Intel;
 use std::alloc::Global;
 
@@ -25,7 +20,7 @@ fn read_lanes(alloc: Global, file: &[u8], geometry: Geometry) -> Result<Vec<Cell
     requires header { first_refusal file.now (header_fields file.now) ≡ None }
     requires lanes { geometry.lanes ≡ lanes_of_file file.now }
     requires device { geometry.device ≡ device_of file.now }
-    ensures { MayRead (image_refusal file.now) (λ lanes. (set : Set) → AreChips file.now set (lanes_of_file file.now) (chips_of set lanes.items)) result }
+    ensures { MayRead (image_refusal file.now) (λ lanes. AreLanes file.now lanes.items) result }
 {
     let mut lanes = Vec::with_capacity(alloc, usize::from(geometry.lanes))?;
     let mut at = FIRST_RECORD;
@@ -42,7 +37,7 @@ fn read_lanes(alloc: Global, file: &[u8], geometry: Geometry) -> Result<Vec<Cell
 
 // The chips of these cells, just powered on.
 fn power_up(alloc: Global, lanes: Vec<Cells>) -> Result<Vec<Intel>, NoMemory>
-    ensures { IfOk result (λ chips. chips.items ≡ chips_of IntelSet lanes.items) }
+    ensures { IfOk result (λ chips. chips.items ≡ chips_of Set.Intel lanes.items) }
 {
     lanes.into_iter().map(Intel::new).collect(alloc)
 }
@@ -50,7 +45,7 @@ fn power_up(alloc: Global, lanes: Vec<Cells>) -> Result<Vec<Intel>, NoMemory>
 // The chips on the bus of a width.
 fn on_bus(width: u8, device: Device, chips: Vec<Intel>) -> Loaded
     requires { IsBank width device chips.items }
-    ensures fresh { IsFresh (bus_of result) }
+    ensures fresh { IsFreshBus (bus_of result) }
     ensures lanes { (bus_of result).lanes ≡ chips.items }
     ensures width { loaded_width result ≡ width }
 {
@@ -69,18 +64,20 @@ fn on_bus(width: u8, device: Device, chips: Vec<Intel>) -> Loaded
 /// it begins, or `BadMagic` or `SizeDiffers`, and bytes behind the last record are `Trailing`.
 pub fn read_image(alloc: Global, file: &[u8]) -> Result<Loaded, ImageError>
     requires { length file.now ≤ 2 ^ 30 }
-    ensures image { IfOk result (λ loaded. IsImageOf file.now IntelSet (device_of file.now) (bus_of loaded).lanes) }
+    ensures image { IfOk result (λ loaded. IsImageOf file.now Set.Intel (device_of file.now) (bus_of loaded).lanes) }
     ensures wired { IfOk result (λ loaded. IsBank (width_of file.now) (device_of file.now) (bus_of loaded).lanes) }
     ensures bytes { IfOk result (λ loaded. (c : ℕ) → c < lanes_of (bus_of loaded) → AreBytes (lane_of_bus (bus_of loaded) c).cells) }
     ensures width { IfOk result (λ loaded. loaded_width loaded ≡ width_of file.now) }
-    ensures fresh { IfOk result (λ loaded. IsFresh (bus_of loaded)) }
+    ensures fresh { IfOk result (λ loaded. IsFreshBus (bus_of loaded)) }
     ensures refused { IfErr result (IsCause file.now) }
 {
     let header = read_header(file)?;
     let lanes = read_lanes(alloc, file, header.geometry)?;
-    if names_amd(&lanes[0].table) {
-        return Err(ImageError::NotBuilt);
+    match set_of(&lanes[0].table) {
+        Set::Intel => {
+            let chips = power_up(alloc, lanes)?;
+            Ok(on_bus(header.width, header.geometry.device, chips))
+        }
+        Set::Amd => Err(ImageError::NotBuilt),
     }
-    let chips = power_up(alloc, lanes)?;
-    Ok(on_bus(header.width, header.geometry.device, chips))
 }

@@ -18,6 +18,7 @@ pub const FIRST_RECORD: usize = 12;
 
 // Where a record has its table, its chip's size and its weak places, within itself.
 const TABLE: usize = 20;
+
 const SIZE: usize = 532;
 /// How long a record is without its weak places and cells.
 pub const FIXED_PART: usize = 536;
@@ -88,7 +89,14 @@ fn is_weak_place(device: Device, size: u32, least: u32, place: u32) -> bool
 }
 
 // Number `k` of the weak places, which is no less than `least`.
-fn read_weak_place(file: &[u8], device: Device, at: usize, k: u16, size: u32, least: u32) -> Result<u32, ImageError>
+fn read_weak_place(
+    file: &[u8],
+    device: Device,
+    at: usize,
+    k: u16,
+    size: u32,
+    least: u32,
+) -> Result<u32, ImageError>
     requires small { length file.now ≤ 2 ^ 30 }
     requires within { at ≤ length file.now }
     requires device { device ≡ device_of file.now }
@@ -103,7 +111,14 @@ fn read_weak_place(file: &[u8], device: Device, at: usize, k: u16, size: u32, le
 }
 
 // So many weak places of a chip of so many bytes, each above the one before.
-fn read_weak(alloc: Global, file: &[u8], device: Device, at: usize, count: u16, size: u32) -> Result<Vec<u32>, ImageError>
+fn read_weak(
+    alloc: Global,
+    file: &[u8],
+    device: Device,
+    at: usize,
+    count: u16,
+    size: u32,
+) -> Result<Vec<u32>, ImageError>
     requires small { length file.now ≤ 2 ^ 30 }
     requires within { at ≤ length file.now }
     requires device { device ≡ device_of file.now }
@@ -137,7 +152,13 @@ fn read_cells(alloc: Global, file: &[u8], at: usize, size: u32) -> Result<Vec<u8
 }
 
 /// The record of a lane, which begins at a place.
-pub fn read_record(alloc: Global, file: &[u8], device: Device, lane: u8, at: usize) -> Result<Cells, ImageError>
+pub fn read_record(
+    alloc: Global,
+    file: &[u8],
+    device: Device,
+    lane: u8,
+    at: usize,
+) -> Result<Cells, ImageError>
     requires small { length file.now ≤ 2 ^ 30 }
     requires behind_header { 12 ≤ at }
     requires within { at ≤ length file.now }

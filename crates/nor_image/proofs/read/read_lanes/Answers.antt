@@ -34,6 +34,7 @@ returns-then-at-file c =
 pub returns : goal.returns
 returns c =
     let all : c.loop-lane.lane ≡ lanes_of_file c.args.file.now = (let same = c.requires.lanes in omega arith) in
-    let ended : length c.args.file.now ≤ c.loop-lane.at = omega arith in
-    (nothing_stops c.args.file.now c.loop-lane.lane c.loop-lane.at c.loop-lane.lanes.items c.loop-lane.invariant all ended,
-    λ set. subst (λ (n : ℕ). AreChips c.args.file.now set n (chips_of set c.loop-lane.lanes.items)) all (c.loop-lane.invariant.chips set))
+    let ended : length c.args.file.now ≤ c.loop-lane.at = omega arith in (
+      nothing_stops c.args.file.now c.loop-lane.lane c.loop-lane.at c.loop-lane.lanes.items c.loop-lane.invariant all ended,
+      λ set. subst (λ (n : ℕ). AreChips c.args.file.now set n (chips_of set c.loop-lane.lanes.items)) all (c.loop-lane.invariant.chips set),
+    )

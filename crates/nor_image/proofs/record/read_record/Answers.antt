@@ -33,11 +33,13 @@ pub returns-in_err-weak : goal.returns-in_err-weak
 returns-in_err-weak c =
     let file = c.args.file.now in
     let stop : c.in_err-weak.field-0.0 ≢ NoMemory
-        → (first_refusal c.args.file.now (record_fields c.args.file.now c.args.lane c.args.at) ≡ Some c.in_err-weak.field-0.0) × IsRefusal c.in_err-weak.field-0.0 =
+    → (first_refusal c.args.file.now (record_fields c.args.file.now c.args.lane c.args.at) ≡ Some c.in_err-weak.field-0.0) × IsRefusal c.in_err-weak.field-0.0 =
     λ has_memory.
-    let h = c.in_err-weak.ensures.read has_memory in
-    (in_weak c.args.file.now c.args.lane c.args.at c.in_err-weak.field-0.0 c.in_ok-numbers.ensures.0 c.in_ok-table.ensures.0 c.in_ok-size.ensures.read.0
-    (subst (λ (n : ℕ). first_refusal c.args.file.now (weak_fields c.args.file.now c.args.at n) ≡ Some c.in_err-weak.field-0.0) c.in_ok-numbers.ensures.1.weak_count h.0), h.1) in
+    let h = c.in_err-weak.ensures.read has_memory in (
+      in_weak c.args.file.now c.args.lane c.args.at c.in_err-weak.field-0.0 c.in_ok-numbers.ensures.0 c.in_ok-table.ensures.0 c.in_ok-size.ensures.read.0
+          (subst (λ (n : ℕ). first_refusal c.args.file.now (weak_fields c.args.file.now c.args.at n) ≡ Some c.in_err-weak.field-0.0) c.in_ok-numbers.ensures.1.weak_count h.0),
+      h.1,
+    ) in
     search (rules, stop)
 
 pub returns-in_err-bytes : goal.returns-in_err-bytes
@@ -47,11 +49,13 @@ returns-in_err-bytes c =
     let place : c.args.at + 536 + 4 * c.from.result ≡ cells_at c.args.file.now c.args.at = ap (λ (n : ℕ). c.args.at + 536 + 4 * n) count in
     let weak = subst (λ (n : ℕ). first_refusal c.args.file.now (weak_fields c.args.file.now c.args.at n) ≡ None) c.in_ok-numbers.ensures.1.weak_count c.in_ok-weak.ensures.read.0 in
     let stop : c.in_err-bytes.field-0.0 ≢ NoMemory
-        → (first_refusal c.args.file.now (record_fields c.args.file.now c.args.lane c.args.at) ≡ Some c.in_err-bytes.field-0.0) × IsRefusal c.in_err-bytes.field-0.0 =
+    → (first_refusal c.args.file.now (record_fields c.args.file.now c.args.lane c.args.at) ≡ Some c.in_err-bytes.field-0.0) × IsRefusal c.in_err-bytes.field-0.0 =
     λ has_memory.
-    let h = c.in_err-bytes.ensures.read has_memory in
-    (in_cells c.args.file.now c.args.lane c.args.at c.in_ok-numbers.ensures.0 c.in_ok-table.ensures.0 c.in_ok-size.ensures.read.0 weak
-    ∙ (sym (any_at c.args.file.now _ _ _ _ place c.in_ok-size.ensures.read.1) ∙ h.0), h.1) in
+    let h = c.in_err-bytes.ensures.read has_memory in (
+      in_cells c.args.file.now c.args.lane c.args.at c.in_ok-numbers.ensures.0 c.in_ok-table.ensures.0 c.in_ok-size.ensures.read.0 weak
+          ∙ (sym (any_at c.args.file.now _ _ _ _ place c.in_ok-size.ensures.read.1) ∙ h.0),
+      h.1,
+    ) in
     search (rules, stop)
 
 pub returns : goal.returns
@@ -78,14 +82,15 @@ returns c =
       suspends = made.suspends ∙ numbers.suspends;
       erases = made.erases ∙ numbers.erases;
     } in
-    let whole = c.in_ok-bytes.ensures.whole in
-    (in_cells c.args.file.now c.args.lane c.args.at c.in_ok-numbers.ensures.0 c.in_ok-table.ensures.0 c.in_ok-size.ensures.read.0 weak
-    ∙ (sym (any_at c.args.file.now _ _ _ _ place size) ∙ c.in_ok-bytes.ensures.read.0),
-    record {
-      chip = λ set. chip_made set c.args.file.now c.args.device c.args.at c.in_ok-make_cells.field-0 is;
-      weak = ap length made.weak ∙ (c.in_ok-weak.ensures.count ∙ numbers.weak_count);
-      size = ap length made.bytes ∙ (c.in_ok-bytes.ensures.size ∙ size);
-      bytes = subst AreBytes (sym made.bytes) c.in_ok-bytes.ensures.bytes;
-      same = ap length made.bytes ∙ (c.in_ok-bytes.ensures.size ∙ c.in_ok-size.ensures.same);
-      whole = omega arith;
-    })
+    let whole = c.in_ok-bytes.ensures.whole in (
+      in_cells c.args.file.now c.args.lane c.args.at c.in_ok-numbers.ensures.0 c.in_ok-table.ensures.0 c.in_ok-size.ensures.read.0 weak
+          ∙ (sym (any_at c.args.file.now _ _ _ _ place size) ∙ c.in_ok-bytes.ensures.read.0),
+      record {
+        chip = λ set. chip_made set c.args.file.now c.args.device c.args.at c.in_ok-make_cells.field-0 is;
+        weak = ap length made.weak ∙ (c.in_ok-weak.ensures.count ∙ numbers.weak_count);
+        size = ap length made.bytes ∙ (c.in_ok-bytes.ensures.size ∙ size);
+        bytes = subst AreBytes (sym made.bytes) c.in_ok-bytes.ensures.bytes;
+        same = ap length made.bytes ∙ (c.in_ok-bytes.ensures.size ∙ c.in_ok-size.ensures.same);
+        whole = omega arith;
+      },
+    )

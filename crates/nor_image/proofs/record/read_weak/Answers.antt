@@ -20,9 +20,10 @@ loop-k-preserved c =
 pub returns-clause-read : goal.returns-clause-read
 returns-clause-read c =
     let done : c.loop-k.k ≡ c.args.count = omega arith in
-    let so = c.loop-k.invariant in
-    (subst (λ (n : ℕ). first_refusal c.args.file.now (weak_fields c.args.file.now c.args.at n) ≡ None) done so.none,
-    subst (λ (n : ℕ). c.loop-k.weak.items ≡ weak_in c.args.file.now c.args.at n) done so.read)
+    let so = c.loop-k.invariant in (
+      subst (λ (n : ℕ). first_refusal c.args.file.now (weak_fields c.args.file.now c.args.at n) ≡ None) done so.none,
+      subst (λ (n : ℕ). c.loop-k.weak.items ≡ weak_in c.args.file.now c.args.at n) done so.read,
+    )
 
 pub returns-clause-ascending : goal.returns-clause-ascending
 returns-clause-ascending c = ascending_below c.loop-k.least c.args.size c.loop-k.weak.items c.loop-k.invariant.ascending c.loop-k.invariant.below
