@@ -65,7 +65,8 @@ nearer_then l m n o k q (Some x) (Some y) None ge le a b = absurd b
 nearer_then l m n o k q (Some x) (Some y) (Some z) ge le a b =
     let p = a.0 in let r = a.1 in let s = b.0 in let t = b.1 in (omega arith, omega arith, b.2 ∙ a.2)
 
-still_none : (l m : ℕ) (x y : Option Armed) → Nearer l m x y → x ≡ None → y ≡ None
+-- no cut is armed where none was
+pub still_none : (l m : ℕ) (x y : Option Armed) → Nearer l m x y → x ≡ None → y ≡ None
 still_none l m None None a e = refl
 still_none l m None (Some y) a e = absurd a
 still_none l m (Some x) None a e = refl

@@ -1,2 +1,4 @@
+pub mod BankBytes
+pub mod Piecewise
 pub mod Putting
 pub mod WordLemmas

@@ -1,10 +1,12 @@
 -- Texts that are put one after the other.
-use Rattle.std.proofs.Common.{◌≡◌, ◌⊎◌, inl, inr, ◌≤◌, ◌+◌, ℕ, List, ◌++◌, Option, Result, Ok, Err, arith}
+use Rattle.std.proofs.Common.{◌≡◌, ◌⊎◌, inl, inr, ◌≤◌, ◌+◌, ℕ, List, ◌++◌, Option, Result, Ok, Err, arith, subst, sym, ap, ◌∙◌}
+use Rattle.nor_image.specs.declared.error.ImageError.{ImageError}
 use Rattle.nor_io.specs.declared.sink.SinkError.{SinkError}
 use Rattle.nor_io.specs.declared.sink.SinkError.TheVariants.{Fault, NoMemory}
 use Rattle.nor_io.specs.Files.{Rose, Appends, AppendsPart}
 use Rattle.nor_io.proofs.Pieces.{Appends-append, AppendsPart-append, AppendsPart-more}
-use Rattle.norbank.specs.Endings.{Ending, ends}
+use Rattle.norbank.specs.Endings.{Ending, ends, refused_ending}
+use Rattle.norbank.specs.Text.{line_of}
 use Rattle.norbank.specs.Says.{Taken, PutsText, Says}
 use Rattle.norbank.specs.Status.{AfterPut}
 
@@ -31,3 +33,13 @@ pub says_so : (code status : ℕ) (text : List ℕ) (taken : Taken) (r : Result 
 says_so code status text taken (Ok done) puts is = inl (is, puts)
 says_so code status text taken (Err Fault) puts is = inr (inl (is, puts.0, puts.1))
 says_so code status text taken (Err NoMemory) puts is = inr (inr (is, puts))
+
+-- what is said of an error
+pub says_error : (error e : ImageError) (ending : Ending) (status : ℕ) (taken : Taken) → error ≡ e → refused_ending e ≡ ending → Says ending taken status → Says (refused_ending error) taken status
+says_error error e ending status taken is so says = subst (λ (x : Ending). Says x taken status) (sym (ap refused_ending is ∙ so)) says
+
+-- the same with a number at the end of the line
+pub says_line : (error e : ImageError) (code status : ℕ) (head tail digits : List ℕ) (taken : Taken) → error ≡ e → tail ≡ digits → refused_ending e ≡ ends code (line_of head digits)
+    → Says (ends code (line_of head tail)) taken status → Says (refused_ending error) taken status
+says_line error e code status head tail digits taken is number so says =
+    says_error error e (ends code (line_of head digits)) status taken is so (subst (λ (t : List ℕ). Says (ends code (line_of head t)) taken status) number says)

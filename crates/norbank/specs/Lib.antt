@@ -1,4 +1,5 @@
 pub mod Endings
+pub mod Open
 pub mod Says
 pub mod Status
 pub mod Text

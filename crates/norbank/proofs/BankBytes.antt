@@ -1,0 +1,148 @@
+-- What reading a bank leaves of it, and how it ends.
+use Rattle.std.proofs.Common.{◌≡◌, ◌<◌, ◌≤◌, ◌+◌, ◌*◌, ◌/◌, ◌%◌, ◌∙◌, ◌⊎◌, ℕ, zero, suc, List, [], ◌∷◌, ◌++◌, length, slice_index, refl, sym, ap, subst, arith, Option, Some, None, Bool, true, false, nat_lt, is_some, append_assoc, get_or, if◌then◌else◌, codes}
+use Rattle.std.proofs.Math.Nat.{mul_assoc, mul_comm, mul_left_comm}
+use Rattle.hex.specs.Hex.{encode_with, encode_lower, lower_digits}
+use Rattle.nor_cell.specs.Bits.{unit_len}
+use Rattle.nor_cell.specs.Chip.{ChipState}
+use Rattle.nor_cell.specs.Resting.{reset}
+use Rattle.nor_cell.specs.declared.device.Device.{Device}
+use Rattle.nor_cell.specs.declared.device.Device.TheVariants.{X8, X16, X16Byte}
+use Rattle.nor_cell.specs.declared.geometry.Geometry.{Geometry}
+use Rattle.nor_bus.specs.Bus.{BusState, IsBank, IsWired, lane, lanes_of, chip_at, units_of, wide, bank_byte, bank_bytes, bank_size}
+use Rattle.nor_bus.specs.Cycles.{KeepsLanes}
+use Rattle.nor_bus.specs.Driven.{EachLane, AllLanes, Went}
+use Rattle.nor_bus.proofs.Driving.{some_lane, fills_word, bank_kept, still_none}
+use Rattle.nor_bus.proofs.Sizes.{bus_units}
+use Rattle.nor_lane.proofs.Places.{lane_at_below}
+use Rattle.nor_bank.specs.Ranges.{IsReadable, AreOfBank}
+use Rattle.nor_probe.specs.Asking.{Resets}
+use Rattle.nor_probe.specs.Found.{found_geometry}
+use Rattle.norbank.specs.Endings.{Ending, ends, bank_ending, probed_ending, range_ending}
+use Rattle.norbank.specs.Open.{IsPowered, IsIdleChip, IsOpen, SameBytes}
+use Rattle.norbank.specs.Text.{hex_line, out_of_range, no_answer}
+
+-- ---- bytes of a bank
+
+-- bytes that are the bank's, one by one
+pub bytes_of : (device : Device) (chips : List ChipState) (at : ℕ) (bytes : List ℕ) → AreOfBank device chips at bytes → bytes ≡ bank_bytes device chips at (length bytes)
+bytes_of device chips at [] are = refl
+bytes_of device chips at (b ∷ bytes) are =
+    let here : at + 0 ≡ at = omega arith in
+    let head : b ≡ bank_byte device chips at = are 0 (omega arith) ∙ ap (λ (n : ℕ). bank_byte device chips n) here in
+    let tail : bytes ≡ bank_bytes device chips (at + 1) (length bytes) =
+        bytes_of device chips (at + 1) bytes (λ i below. are (suc i) (omega arith) ∙ (let e : at + suc i ≡ at + 1 + i = omega arith in ap (λ (n : ℕ). bank_byte device chips n) e)) in
+    ap (λ (n : ℕ). n ∷ bytes) head ∙ ap (λ (l : List ℕ). bank_byte device chips at ∷ l) tail
+
+-- one range after another
+pub bank_bytes-add : (device : Device) (chips : List ChipState) (m a n : ℕ) → bank_bytes device chips a (m + n) ≡ bank_bytes device chips a m ++ bank_bytes device chips (a + m) n
+bank_bytes-add device chips zero a n =
+    let e : 0 + n ≡ n = omega arith in
+    let f : a ≡ a + 0 = omega arith in
+    ap (λ (k : ℕ). bank_bytes device chips a k) e ∙ ap (λ (k : ℕ). bank_bytes device chips k n) f
+bank_bytes-add device chips (suc m) a n =
+    let e : suc m + n ≡ suc (m + n) = omega arith in
+    let f : a + 1 + m ≡ a + suc m = omega arith in
+    ap (λ (k : ℕ). bank_bytes device chips a k) e
+    ∙ (ap (λ (l : List ℕ). bank_byte device chips a ∷ l) (bank_bytes-add device chips m (a + 1) n)
+    ∙ ap (λ (k : ℕ). bank_byte device chips a ∷ (bank_bytes device chips (a + 1) m ++ bank_bytes device chips k n)) f)
+
+pub encode-append : (t xs ys : List ℕ) → encode_with t (xs ++ ys) ≡ encode_with t xs ++ encode_with t ys
+unfolding encode_with
+encode-append t [] ys = refl
+encode-append t (x ∷ xs) ys = ap (λ (r : List ℕ). get_or t (x / 16) 0 ∷ get_or t (x % 16) 0 ∷ r) (encode-append t xs ys)
+
+pub encode-nil : encode_lower [] ≡ []
+unfolding encode_with
+encode-nil = refl
+
+-- the text of one range after another
+pub encode-add : (device : Device) (chips : List ChipState) (a m n : ℕ)
+    → encode_lower (bank_bytes device chips a (m + n)) ≡ encode_lower (bank_bytes device chips a m) ++ encode_lower (bank_bytes device chips (a + m) n)
+encode-add device chips a m n = ap encode_lower (bank_bytes-add device chips m a n) ∙ encode-append lower_digits (bank_bytes device chips a m) (bank_bytes device chips (a + m) n)
+
+-- the line of a range that isn't empty
+pub line_some : (device : Device) (chips : List ChipState) (at len : ℕ) → 0 < len
+    → hex_line (bank_bytes device chips at len) ≡ encode_lower (bank_bytes device chips at len) ++ codes "\n"
+line_some device chips at zero some = absurd (omega arith)
+line_some device chips at (suc len) some = refl
+
+-- ---- chips that were reset
+
+cells_same : (s t : ChipState) → IsIdleChip s → Resets s t → t.cells ≡ s.cells
+cells_same s t is resets = ap (λ (x : ChipState). x.cells) (resets is.resting)
+
+byte_same : (width : ℕ) (device : Device) (old new : BusState) (a : ℕ) → IsBank width device old.lanes → KeepsLanes old new → EachLane Resets old new → AllLanes IsIdleChip old
+    → bank_byte device new.lanes a ≡ bank_byte device old.lanes a
+byte_same width device old new a bank kept resets idle =
+    let n = lanes_of old in
+    let d = unit_len device in
+    let c = a / d % n in
+    let below : c < n = lane_at_below n d a (some_lane width device old.lanes bank) in
+    let cells = cells_same (lane old c) (lane new c) (idle c below) (resets c below) in
+    ap (λ (m : ℕ). slice_index (chip_at new.lanes (a / d % m)).cells (a / (m * d) * d + a % d)) kept.count
+    ∙ ap (λ (l : List ℕ). slice_index l (a / (n * d) * d + a % d)) cells
+
+bytes_same : (width : ℕ) (device : Device) (old new : BusState) (len at : ℕ) → IsBank width device old.lanes → KeepsLanes old new → EachLane Resets old new → AllLanes IsIdleChip old
+    → bank_bytes device new.lanes at len ≡ bank_bytes device old.lanes at len
+bytes_same width device old new zero at bank kept resets idle = refl
+bytes_same width device old new (suc len) at bank kept resets idle =
+    ap (λ (b : ℕ). b ∷ bank_bytes device new.lanes (at + 1) len) (byte_same width device old new at bank kept resets idle)
+    ∙ ap (λ (l : List ℕ). bank_byte device old.lanes at ∷ l) (bytes_same width device old new len (at + 1) bank kept resets idle)
+
+size_same : (width : ℕ) (device : Device) (old new : BusState) → IsBank width device old.lanes → KeepsLanes old new → bank_size new.lanes ≡ bank_size old.lanes
+size_same width device old new bank kept =
+    let first = some_lane width device old.lanes bank in
+    ap (λ (n : ℕ). n * length (chip_at new.lanes 0).cells) kept.count ∙ ap (λ (n : ℕ). lanes_of old * n) (kept.each 0 first).size
+
+pub same_after : (old new : BusState) → KeepsLanes old new → EachLane Resets old new → AllLanes IsIdleChip old → SameBytes old new
+same_after old new kept resets idle = λ width device bank.
+    (bank_kept width device old new kept bank, size_same width device old new bank kept, λ at len. bytes_same width device old new len at bank kept resets idle)
+
+-- ---- a bus that stays open
+
+pub still_open : (l m : ℕ) (old new : BusState) → IsOpen old → Went l m old new → new.lanes ≡ old.lanes → IsOpen new
+still_open l m old new is went same = record {
+  powered = record { power = went.power is.powered.power; armed = still_none l m old.armed new.armed went.armed is.powered.armed };
+  chips = let there : (c : ℕ) → c < length new.lanes → IsReadable (chip_at new.lanes c) = subst (λ (ls : List ChipState). (c : ℕ) → c < length ls → IsReadable (chip_at ls c)) (sym same) is.chips in there;
+}
+
+-- how many bytes the bank has, by its bus words
+pub bank_words : (width : ℕ) (device : Device) (bus : BusState) → IsWired width bus → IsBank width device bus.lanes → bank_size bus.lanes ≡ units_of bus * width
+bank_words width device bus wired bank =
+    let whole = (bus_units width bus wired).2 in
+    let first = some_lane width device bus.lanes bank in
+    let d : wide (lane bus 0) ≡ unit_len device = ap unit_len (bank.devices 0 first) in
+    let fills = fills_word width device bus.lanes bank in
+    ap (λ (n : ℕ). lanes_of bus * n) (sym whole)
+    ∙ (ap (λ (n : ℕ). lanes_of bus * (units_of bus * n)) d
+    ∙ (mul_left_comm (lanes_of bus) (units_of bus) (unit_len device) ∙ ap (λ (n : ℕ). units_of bus * n) fills))
+
+-- ---- endings
+
+no_found : (found : Option Geometry) (device : Device) (chips : List ChipState) (at len : ℕ) → is_some found ≡ false → probed_ending found device chips at len ≡ ends 5 no_answer
+no_found None device chips at len is = refl
+no_found (Some g) device chips at len is = cc
+
+some_found : (found : Option Geometry) (device : Device) (chips : List ChipState) (at len : ℕ) → is_some found ≡ true → probed_ending found device chips at len ≡ range_ending device chips at len
+some_found None device chips at len is = cc
+some_found (Some g) device chips at len is = refl
+
+pub lt_true : (m n : ℕ) → m < n → nat_lt m n ≡ true
+lt_true m n less = grind (arith, less)
+
+pub lt_false : (m n : ℕ) → n ≤ m → nat_lt m n ≡ false
+lt_false m n less = grind (arith, less)
+
+pub ends_silent : (width : ℕ) (device : Device) (chips : List ChipState) (at len : ℕ) (shows : Bool) → shows ≡ is_some (found_geometry width chips) → shows ≡ false
+    → bank_ending width device chips at len ≡ ends 5 no_answer
+ends_silent width device chips at len shows is hidden = no_found (found_geometry width chips) device chips at len (sym is ∙ hidden)
+
+pub ends_outside : (width : ℕ) (device : Device) (chips : List ChipState) (at len : ℕ) (shows : Bool) → shows ≡ is_some (found_geometry width chips) → shows ≡ true
+    → bank_size chips < at + len → bank_ending width device chips at len ≡ ends 10 out_of_range
+ends_outside width device chips at len shows is seen past =
+    some_found (found_geometry width chips) device chips at len (sym is ∙ seen) ∙ ap (λ (b : Bool). if b then ends 10 out_of_range else ends 0 (hex_line (bank_bytes device chips at len))) (lt_true (bank_size chips) (at + len) past)
+
+pub ends_inside : (width : ℕ) (device : Device) (chips : List ChipState) (at len : ℕ) (shows : Bool) → shows ≡ is_some (found_geometry width chips) → shows ≡ true
+    → at + len ≤ bank_size chips → bank_ending width device chips at len ≡ ends 0 (hex_line (bank_bytes device chips at len))
+ends_inside width device chips at len shows is seen within =
+    some_found (found_geometry width chips) device chips at len (sym is ∙ seen) ∙ ap (λ (b : Bool). if b then ends 10 out_of_range else ends 0 (hex_line (bank_bytes device chips at len))) (lt_false (bank_size chips) (at + len) within)
