@@ -52,7 +52,7 @@ module _ {V E : Type 0} where
   table_by t u v o l p ls ps own = ap (λ (z : PassView V E). z.table) ps ∙ (own.0 ∙ ap (λ (z : LockView V). z.table) (sym ls))
 
   -- the table knows of the pass with which value the lock was made
-  pub origin_by : (t u : TableId) (v : View V E) (o : V) (l : LockView V) (p : PassView V E) → lock_view u o ≡ l → pass_view t v ≡ p → IsPassOf l p → v.origin ≡ Some o
+  pub origin_by : (t u : TableId) (v : View V E) (o : V) (l : LockView V) (p : PassView V E) → lock_view u o ≡ l → pass_view t v ≡ p → IsPassOf l p → v.opening ≡ Some o
   origin_by t u v o l p ls ps own = ap (λ (z : PassView V E). z.opening) ps ∙ (own.1 ∙ ap (λ (z : LockView V). Some z.opening) (sym ls))
 
   pub no_ticket : (t : TableId) (v : View V E) (p : PassView V E) → pass_view t v ≡ p → p.ticket ≡ None → v.ticket ≡ None
@@ -62,8 +62,8 @@ module _ {V E : Type 0} where
   number_by t v p ps some_ticket = some_word v.ticket (subst (λ (z : PassView V E). IsSome z.ticket) (sym ps) some_ticket)
 
   -- who has no ticket has no turn
-  pub no_turn : (me : Me (Option V) (View V E)) (share room ticket : ℕ) → Agrees me share room ticket → me.0.ticket ≡ None → me.0.turn ≡ false
-  no_turn me share room ticket a none = idle_by me.0.turn me.0.ticket a.drawn none
+  pub no_turn : (me : Me (Option V) (View V E)) (share room ticket : ℕ) → Agrees me share room ticket → me.0.ticket ≡ None → me.0.has_turn ≡ false
+  no_turn me share room ticket a none = idle_by me.0.has_turn me.0.ticket a.drawn none
 
   name_by : (t : TableId) (v : View V E) (p : PassView V E) (n : Name) → pass_view t v ≡ p → Owns p n → HasName v n
   name_by t v p n ps own = ⊎_elim
@@ -78,18 +78,18 @@ module _ {V E : Type 0} where
       has)
 
   -- a front that begins with what the pass has seen, and goes on with entries that are strange to it
-  pub continues : (t : TableId) (v : View V E) (p : PassView V E) (front : Front E) → pass_view t v ≡ p → IsPrefix v.front front → Strange v front → Continues p front
+  pub continues : (t : TableId) (v : View V E) (p : PassView V E) (front : Front E) → pass_view t v ≡ p → IsPrefix v.seen front → Strange v front → Continues p front
   continues t v p front ps begins strange =
       subst (λ (z : PassView V E). Continues z front) ps record {
         added = begins.0;
         whole = begins.1;
-        others = λ k d short own. strange (length v.front + k) (get_or begins.0 k d)
-            (ap (λ (l : Front E). get_elem? l (length v.front + k)) (sym begins.1) ∙ at_far v.front begins.0 (length v.front + k) k d refl short)
+        others = λ k d short own. strange (length v.seen + k) (get_or begins.0 k d)
+            (ap (λ (l : Front E). get_elem? l (length v.seen + k)) (sym begins.1) ∙ at_far v.seen begins.0 (length v.seen + k) k d refl short)
             (omega arith)
             (name_by t v (pass_view t v) (get_or begins.0 k d).0 refl own);
       }
 
   -- each entry has a name that the pass owns
-  pub all_owned : (t : TableId) (v : View V E) (p : PassView V E) → pass_view t v ≡ p → ((k : ℕ) (pair : Name × E) → get_elem? v.front k ≡ some pair → HasName v pair.0) → All (λ (pair : Name × E). Owns p pair.0) p.seen
+  pub all_owned : (t : TableId) (v : View V E) (p : PassView V E) → pass_view t v ≡ p → ((k : ℕ) (pair : Name × E) → get_elem? v.seen k ≡ some pair → HasName v pair.0) → All (λ (pair : Name × E). Owns p pair.0) p.seen
   all_owned t v p ps named = subst (λ (z : PassView V E). All (λ (pair : Name × E). Owns z pair.0) z.seen) ps
-      (λ k d short. owns_by t v (pass_view t v) (get_or v.front k d).0 refl (named k (get_or v.front k d) (at_or v.front k d short)))
+      (λ k d short. owns_by t v (pass_view t v) (get_or v.seen k d).0 refl (named k (get_or v.seen k d) (at_or v.seen k d short)))

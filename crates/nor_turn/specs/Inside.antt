@@ -18,12 +18,12 @@ lock_view t x = record { table = t; opening = x }
 module _ {V E : Type 0} where
   abbrev pub pass_view : TableId → View V E → PassView V E
   pass_view t v =
-      record { table = t; opening = v.origin; name = v.name; splits = v.splits; taken = v.taken; seen = v.front; share = v.share; room = v.room; ticket = ticket_word v.ticket; has_turn = v.turn; turn_front = v.whole; looks = v.looks; last = v.last }
+      record { table = t; opening = v.opening; name = v.name; splits = v.splits; taken = v.taken; seen = v.seen; share = v.share; room = v.room; ticket = ticket_word v.ticket; has_turn = v.has_turn; turn_front = v.turn_front; looks = v.looks; last = v.last }
 
   -- what a pass holds agrees with what the table knows of it
   pub record Agrees (me : Me (Option V) (View V E)) (share room ticket : ℕ) : Type 0 where
     pub share_is : me.0.share ≡ share
     pub room_is : me.0.room ≡ room
     pub ticket_is : (k : ℕ) → me.0.ticket ≡ Some k → ticket ≡ k % span
-    pub hand_is : me.1 ≡ in_hand me.0.turn
-    pub drawn : me.0.turn ≡ true → IsSome me.0.ticket
+    pub hand_is : me.1 ≡ in_hand me.0.has_turn
+    pub drawn : me.0.has_turn ≡ true → IsSome me.0.ticket
