@@ -1,5 +1,5 @@
 -- What a lock and a pass hold, by what contracts see of them.
-use Rattle.std.proofs.Common.{◌≡◌, ℕ, zero, suc, ◌+◌, ◌<◌, ◌⊎◌, Bool, true, false, List, [], ◌∷◌, ◌++◌, length, get_or, sym, refl, ap, ◌∙◌, subst, ⊎_elim, inl, inr, arith, Option, Some, None, All, Contains}
+use Rattle.std.proofs.Common.{◌≡◌, ℕ, zero, suc, ◌+◌, ◌<◌, Bool, true, false, List, [], ◌∷◌, ◌++◌, length, get_or, sym, refl, ap, ◌∙◌, subst, ⊎_elim, inl, inr, arith, Option, Some, None, All, Contains}
 use Rattle.std.specs.Prelude.{IsSome}
 use mathlib.Core.Option.{some, some-ne-none, some-injective}
 use mathlib.Core.List.{IsPrefix}
@@ -8,8 +8,8 @@ use Rattle.atomic_table.specs.Seated.{TableId}
 use Rattle.atomic_table.specs.Table.{Me}
 use Rattle.nor_turn.specs.declared.view.View.{View}
 use Rattle.nor_turn.specs.Fronts.{Name, Front}
-use Rattle.nor_turn.specs.Passes.{LockView, PassView, IsPassOf, Owns, Continues}
-use Rattle.nor_turn.specs.Inside.{ticket_word, lock_view, pass_view, Agrees}
+use Rattle.nor_turn.specs.Passes.{PassView, Owns, Continues}
+use Rattle.nor_turn.specs.Inside.{ticket_word, pass_view, Agrees}
 use Rattle.nor_turn.specs.Rule.{HasName, Strange}
 
 -- no word is that of no ticket
@@ -47,17 +47,11 @@ module _ {A : Type 0} where
   at_far (x ∷ xs) ys (suc i) k d is short = at_far xs ys i k d (omega arith) short
 
 module _ {V E : Type 0} where
-  -- the pass is at the lock's table
-  pub table_by : (t u : TableId) (v : View V E) (o : V) (l : LockView V) (p : PassView V E) → lock_view u o ≡ l → pass_view t v ≡ p → IsPassOf l p → t ≡ u
-  table_by t u v o l p ls ps own = ap (λ (z : PassView V E). z.table) ps ∙ (own.0 ∙ ap (λ (z : LockView V). z.table) (sym ls))
-
-  -- the table knows of the pass with which value the lock was made
-  pub origin_by : (t u : TableId) (v : View V E) (o : V) (l : LockView V) (p : PassView V E) → lock_view u o ≡ l → pass_view t v ≡ p → IsPassOf l p → v.opening ≡ Some o
-  origin_by t u v o l p ls ps own = ap (λ (z : PassView V E). z.opening) ps ∙ (own.1 ∙ ap (λ (z : LockView V). Some z.opening) (sym ls))
-
+  -- contracts see no ticket where the table knows of none
   pub no_ticket : (t : TableId) (v : View V E) (p : PassView V E) → pass_view t v ≡ p → p.ticket ≡ None → v.ticket ≡ None
   no_ticket t v p ps none = none_word v.ticket (ap (λ (z : PassView V E). z.ticket) ps ∙ none)
 
+  -- contracts see a ticket where the table knows its number
   pub number_by : (t : TableId) (v : View V E) (p : PassView V E) → pass_view t v ≡ p → IsSome p.ticket → (k : ℕ) × (v.ticket ≡ Some k)
   number_by t v p ps some_ticket = some_word v.ticket (subst (λ (z : PassView V E). IsSome z.ticket) (sym ps) some_ticket)
 
@@ -65,19 +59,21 @@ module _ {V E : Type 0} where
   pub no_turn : (me : Me (Option V) (View V E)) (share room ticket : ℕ) → Agrees me share room ticket → me.0.ticket ≡ None → me.0.has_turn ≡ false
   no_turn me share room ticket a none = idle_by me.0.has_turn me.0.ticket a.drawn none
 
+  -- a name that the pass owns is one that the table knows to be its
   name_by : (t : TableId) (v : View V E) (p : PassView V E) (n : Name) → pass_view t v ≡ p → Owns p n → HasName v n
   name_by t v p n ps own = ⊎_elim
       (λ (e : n ≡ v.name). inl e)
       (λ (c : Contains v.taken n). inr (c.0, at_or v.taken c.0 n c.1 ∙ ap some c.2))
       (subst (λ (z : PassView V E). Owns z n) (sym ps) own)
 
+  -- and the other way round
   owns_by : (t : TableId) (v : View V E) (p : PassView V E) (n : Name) → pass_view t v ≡ p → HasName v n → Owns p n
   owns_by t v p n ps has = subst (λ (z : PassView V E). Owns z n) ps (⊎_elim
       (λ (e : n ≡ v.name). inl e)
       (λ (c : (k : ℕ) × (get_elem? v.taken k ≡ some n)). let r = or_at v.taken c.0 n c.1 in inr (c.0, r.0, r.1))
       has)
 
-  -- a front that begins with what the pass has seen, and goes on with entries that are strange to it
+  -- the front begins with what the pass has seen, and goes on with entries that are strange to it
   pub continues : (t : TableId) (v : View V E) (p : PassView V E) (front : Front E) → pass_view t v ≡ p → IsPrefix v.seen front → Strange v front → Continues p front
   continues t v p front ps begins strange =
       subst (λ (z : PassView V E). Continues z front) ps record {

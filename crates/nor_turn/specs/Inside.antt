@@ -1,4 +1,4 @@
--- How what contracts see of a lock and a pass comes from what these hold.
+-- How what contracts see of a lock and of a pass comes from what these hold.
 use Rattle.std.specs.Prelude.{◌≡◌, ℕ, ◌%◌, true, Option, Some, None, IsSome}
 use Rattle.atomic_table.specs.Table.{Me}
 use Rattle.atomic_table.specs.Seated.{TableId}
@@ -7,7 +7,7 @@ use Rattle.nor_turn.specs.Passes.{LockView, PassView}
 use Rattle.nor_turn.specs.Rule.{span}
 use Rattle.nor_turn.specs.Steps.{in_hand}
 
--- the word of a ticket
+-- the word of a ticket, which is its number modulo 2 ^ 64
 abbrev pub ticket_word : Option ℕ → Option ℕ
 ticket_word (Some k) = Some (k % span)
 ticket_word None = None
@@ -17,10 +17,23 @@ lock_view t x = record { table = t; opening = x }
 
 module _ {V E : Type 0} where
   abbrev pub pass_view : TableId → View V E → PassView V E
-  pass_view t v =
-      record { table = t; opening = v.opening; name = v.name; splits = v.splits; taken = v.taken; seen = v.seen; share = v.share; room = v.room; ticket = ticket_word v.ticket; has_turn = v.has_turn; turn_front = v.turn_front; looks = v.looks; last = v.last }
+  pass_view t v = record {
+    table = t;
+    opening = v.opening;
+    name = v.name;
+    splits = v.splits;
+    taken = v.taken;
+    seen = v.seen;
+    share = v.share;
+    room = v.room;
+    ticket = ticket_word v.ticket;
+    has_turn = v.has_turn;
+    turn_front = v.turn_front;
+    looks = v.looks;
+    last = v.last;
+  }
 
-  -- what a pass holds agrees with what the table knows of it
+  -- the numbers that a pass holds are those that the table knows of it. It holds the slot while it has the turn, and has a ticket then
   pub record Agrees (me : Me (Option V) (View V E)) (share room ticket : ℕ) : Type 0 where
     pub share_is : me.0.share ≡ share
     pub room_is : me.0.room ≡ room

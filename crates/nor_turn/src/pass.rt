@@ -6,12 +6,19 @@ use crate::view::View;
 use atomic_table::Seat;
 use std::marker::Model;
 
-/// The right to draw tickets. One that is dropped keeps its share, so its lock can't be closed.
+/// The right to take turns at one lock, for one thread at a time.
+///
+/// Contracts see it as a `PassView` of `specs/Passes.antt`: its name, the front that it has seen,
+/// its share and room, its ticket, whether it has the turn and at which front, and how often it
+/// looked at SERVING and what it found there last.
+///
+/// A pass that is dropped keeps its share, so the lock can't be closed then.
 #[derive(Drop)]
 pub struct Pass<V: Stands> {
     pub(crate) seat: Seat<Option<V>, View<V, V::Entry>>,
     pub(crate) share: u32,
     pub(crate) room: u64,
+    // The word that it drew, while it has a ticket.
     pub(crate) ticket: u64,
 }
 
@@ -28,14 +35,15 @@ impl<V: Stands> Model for Pass<V> {
 }
 
 impl<V: Stands> Pass<V> {
-    /// Its share of the 2^20 that all passes of a lock have together.
+    /// Its share of the right to pass on turns, of which all passes of a lock have 2^20 together.
+    /// A pass is split off only where this is at least 2.
     pub fn share(&self) -> u32
         ensures { result ≡ self.now.share }
     {
         self.share
     }
 
-    /// How many entries it may make.
+    /// How many entries it may still make. All passes of a lock may make 2^62 together.
     pub fn room(&self) -> u64
         ensures { result ≡ self.now.room }
     {
