@@ -48,6 +48,7 @@ module _ {V E : Type 0} (stands : V → Front E → V → Type 0) (origin : V) w
       turn_is = λ z. absurd (cc z);
     });
     apart = λ i j k v w at_i at_j _ _. (alone (first_view origin) i v at_i).0 ∙ sym (alone (first_view origin) j w at_j).0;
+    waiting = λ k low high. absurd (omega (arith, low, high));
     slot = inl (x, refl, subst (λ (z : V). stands z [] x) (sym e) st);
     names = named_start V E origin x;
   }
