@@ -1,0 +1,5 @@
+pub mod Checks
+pub mod Derived
+pub mod Fields
+pub mod Stands
+pub mod Valid
