@@ -15,10 +15,12 @@
 
 mod check;
 mod decoding;
+mod derived;
 mod error;
 mod field;
 mod place;
 mod query;
+mod valid;
 
 pub use decoding::decode;
 pub use error::{QueryError, QueryKind};
