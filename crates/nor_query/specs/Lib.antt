@@ -3,3 +3,4 @@ pub mod Derived
 pub mod Fields
 pub mod Stands
 pub mod Valid
+pub mod Writing

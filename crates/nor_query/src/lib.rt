@@ -16,6 +16,7 @@
 mod check;
 mod decoding;
 mod derived;
+mod encoding;
 mod error;
 mod field;
 mod place;
@@ -23,6 +24,7 @@ mod query;
 mod valid;
 
 pub use decoding::decode;
+pub use encoding::encode;
 pub use error::{QueryError, QueryKind};
 pub use nor_cell::{SuspendKind, Work};
 pub use query::{Extended, Query};
