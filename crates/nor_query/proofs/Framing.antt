@@ -44,3 +44,39 @@ regions_written old new bytes regions i region d less before same inside reads i
     let here = region_moves bytes new (0x2D + 4 * i) 0 (λ k few. inside k few ∙ ap (λ p. slice_index bytes p) (let e : k ≡ 0 + k = omega arith in e)) in
     more ∙ (ap (λ first. first ++ region_at new (0x2D + 4 * i) ∷ []) (frame ∙ before)
     ∙ (ap (λ last. take i regions ++ last ∷ []) (here ∙ (reads ∙ is)) ∙ sym (take_more regions i d less)))
+
+-- bytes that are the same
+pub bytes_move : (old new : List ℕ) (a b n : ℕ) → ((k : ℕ) → k < n → slice_index new (a + k) ≡ slice_index old (b + k)) → bytes_at new a n ≡ bytes_at old b n
+bytes_move old new a b zero same = refl
+bytes_move old new a b (suc n) same =
+    let zero_a : a ≡ a + 0 = omega arith in
+    let zero_b : b + 0 ≡ b = omega arith in
+    let first : slice_index new a ≡ slice_index old b = ap (λ p. slice_index new p) zero_a ∙ (same 0 (omega arith) ∙ ap (λ p. slice_index old p) zero_b) in
+    let rest = bytes_move old new (a + 1) (b + 1) n (λ k less.
+      let next_a : a + 1 + k ≡ a + (k + 1) = omega arith in
+      let next_b : b + (k + 1) ≡ b + 1 + k = omega arith in
+      ap (λ p. slice_index new p) next_a ∙ (same (k + 1) (omega arith) ∙ ap (λ p. slice_index old p) next_b)) in
+    ap (λ byte. byte ∷ bytes_at new (a + 1) n) first ∙ ap (λ bytes. slice_index old b ∷ bytes) rest
+
+-- a head that is copied into a table
+pub head_moves : (head table : List ℕ) (q : Query) → ((k : ℕ) → k < 29 → slice_index table (0x10 + k) ≡ slice_index head k) → HeadReads head 0 q → HeadReads table 0x10 q
+head_moves head table q same reads =
+    let word : (k : ℕ) → k + 1 < 29 → field_16 table (0x10 + k) ≡ field_16 head k =
+        (λ k less. word_moves head table (0x10 + k) k (same k (omega arith)) (ap (λ p. slice_index table p) (let e : 0x10 + k + 1 ≡ 0x10 + (k + 1) = omega arith in e) ∙ same (k + 1) less)) in
+    let bytes : (b n : ℕ) → b + n ≤ 29 → bytes_at table (0x10 + b) n ≡ bytes_at head b n =
+        (λ b n less. bytes_move head table (0x10 + b) b n (λ k few. ap (λ p. slice_index table p) (let e : 0x10 + b + k ≡ 0x10 + (b + k) = omega arith in e) ∙ same (b + k) (omega arith))) in
+    record {
+      q = same 0 (omega arith) ∙ reads.q;
+      r = same 1 (omega arith) ∙ reads.r;
+      y = same 2 (omega arith) ∙ reads.y;
+      set = word 3 (omega arith) ∙ reads.set;
+      ext = word 5 (omega arith) ∙ reads.ext;
+      alt_set = word 7 (omega arith) ∙ reads.alt_set;
+      alt_ext = word 9 (omega arith) ∙ reads.alt_ext;
+      volts = bytes 11 4 (omega arith) ∙ reads.volts;
+      times = bytes 15 8 (omega arith) ∙ reads.times;
+      size_log = same 23 (omega arith) ∙ reads.size_log;
+      interface = word 24 (omega arith) ∙ reads.interface;
+      buffer_log = word 26 (omega arith) ∙ reads.buffer_log;
+      count = same 28 (omega arith) ∙ reads.count;
+    }

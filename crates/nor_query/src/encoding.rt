@@ -1,5 +1,6 @@
 ghost use Rattle.std.specs.Prelude.{◌≡◌, ◌≢◌, ◌<◌, ◌≤◌, ◌+◌, ◌*◌, ℕ, List, length, slice_index, IsTrue, false};
 ghost use Rattle.std.specs.List.{list_all};
+ghost use Rattle.nor_cell.specs.Bits.{AreBytes};
 ghost use Rattle.nor_query.specs.Fields.{field_32, region_at, regions_at, is_named_extended, named_len};
 ghost use Rattle.nor_query.specs.Stands.{StandsFor};
 ghost use Rattle.nor_query.specs.Valid.{IsValid, is_table_region, set_of_extended};
@@ -26,6 +27,7 @@ pub fn encode(q: &Query) -> [u8; 512]
 fn put(table: &mut [u8; 512], at: usize, bytes: &[u8])
     requires { at + length bytes.now ≤ 512 }
     ensures len { length table.new ≡ 512 }
+    ensures bytes { AreBytes table.new }
     ensures inside { (k : ℕ) → k < length bytes.now → slice_index table.new (at + k) ≡ slice_index bytes.now k }
     ensures below { SameWithin 0 at table.old table.new }
     ensures above { SameWithin (at + length bytes.now) 512 table.old table.new }
@@ -91,6 +93,7 @@ fn put_extended(table: &mut [u8; 512], ext: usize, minor: u8, extended: Extended
     requires inside { ext + named_len (set_of_extended extended) ≤ 512 }
     requires minor { minor ≤ 5 }
     ensures len { length table.new ≡ 512 }
+    ensures bytes { AreBytes table.new }
     ensures reads { ExtendedReads table.new ext minor extended }
     ensures below { SameWithin 0 ext table.old table.new }
     ensures free { (k : ℕ) → ext + k < 512 → is_named_extended (set_of_extended extended) k ≡ false → slice_index table.new (ext + k) ≡ slice_index table.old (ext + k) }
@@ -105,6 +108,7 @@ fn put_extended(table: &mut [u8; 512], ext: usize, minor: u8, extended: Extended
 fn put_intel(table: &mut [u8; 512], ext: usize, features: u32, in_suspend: u8)
     requires { ext + 10 ≤ 512 }
     ensures len { length table.new ≡ 512 }
+    ensures bytes { AreBytes table.new }
     ensures features { field_32 table.new (ext + 5) ≡ features }
     ensures in_suspend { slice_index table.new (ext + 9) ≡ in_suspend }
     ensures below { SameWithin 0 (ext + 5) table.old table.new }
@@ -117,6 +121,7 @@ fn put_intel(table: &mut [u8; 512], ext: usize, features: u32, in_suspend: u8)
 fn put_amd(table: &mut [u8; 512], ext: usize, suspend: u8, protect: u8, boot: u8)
     requires { ext + 16 ≤ 512 }
     ensures len { length table.new ≡ 512 }
+    ensures bytes { AreBytes table.new }
     ensures suspend { slice_index table.new (ext + 6) ≡ suspend }
     ensures protect { slice_index table.new (ext + 9) ≡ protect }
     ensures boot { slice_index table.new (ext + 15) ≡ boot }
