@@ -1,21 +1,22 @@
 -- What a query says beyond its fields is what a chip reads from the table that stands for it.
-use Rattle.std.proofs.Common.{◌≡◌, ◌<◌, ◌≤◌, ◌≢◌, ℕ, zero, suc, ◌+◌, ◌*◌, ◌-◌, ◌/◌, ◌%◌, ◌^◌, min, List, length, refl, sym, ◌∙◌, ap, arith, Bool, true, false}
-use Rattle.std.specs.Prelude.{◌==◌, ◌&&◌, nat_le, nat_lt, if◌then◌else◌, slice_index}
+use Rattle.std.proofs.Common.{◌≡◌, ◌<◌, ◌≤◌, ◌≢◌, ℕ, zero, suc, ◌+◌, ◌*◌, ◌-◌, ◌/◌, ◌%◌, ◌^◌, min, List, [], length, refl, sym, ◌∙◌, ap, arith}
+use Rattle.std.specs.Prelude.{◌==◌, ◌&&◌, nat_le, nat_lt, if◌then◌else◌, is_none, slice_index}
 use Rattle.std.proofs.lemmas.Bool.Decides.{nat_tests}
 use Rattle.std.proofs.Math.Pow.{pow_mono}
 use Rattle.nor_cell.specs.Bits.{has_bit}
-use Rattle.nor_cell.specs.Table.{extended_at, extended, set_of, suspend_kind, suspend_of as chip_suspend_of, intel_suspend, has_locks, locks_of as chip_locks_of, buffer_units_of, at_least_two, most_reads, limit}
+use Rattle.nor_cell.specs.Table.{extended_at, extended, set_of, suspend_kind, suspend_of as chip_suspend_of, has_locks, locks_of as chip_locks_of, buffer_units_of, at_least_two, limit}
 use Rattle.nor_cell.specs.declared.device.Device.TheVariants.{X16}
 use Rattle.nor_cell.specs.declared.device.Set.{Set}
 use Rattle.nor_cell.specs.declared.device.Set.TheVariants.{Intel as IntelSet, Amd as AmdSet}
 use Rattle.nor_cell.specs.declared.device.SuspendKind.TheVariants.{None as NoSuspend, Read as ReadOnly, Program as ReadProgram}
 use Rattle.nor_cell.specs.declared.device.Work.{Work}
 use Rattle.nor_cell.specs.declared.device.Work.TheVariants.{Word, Buffer, Block}
-use Rattle.nor_query.specs.Derived.{suspend_of, locks_of, is_reversed, is_reversed_in, limit_of}
-use Rattle.nor_query.specs.Fields.{field_32, bytes_at, extended_of, region_count}
+use Rattle.nor_region.specs.Map.{in_order, spans_of}
+use Rattle.nor_region.specs.declared.region.Region.{Region}
+use Rattle.nor_query.specs.Derived.{suspend_of, locks_of, is_reversed, is_reversed_in, table_blocks, limit_of}
+use Rattle.nor_query.specs.Fields.{field_32, bytes_at, extended_of, regions_of, region_count}
 use Rattle.nor_query.specs.Stands.{StandsFor}
 use Rattle.nor_query.specs.declared.query.Query.{Query}
-use Rattle.nor_query.specs.declared.query.Extended.{Extended}
 use Rattle.nor_query.proofs.Standing.{length-regions_at}
 
 -- bytes above the lowest don't change its bits
@@ -98,3 +99,13 @@ pub few_reads : (m : ℕ) → m ≤ 20 → 1 * 2 ^ m % 4294967296 ≤ 1048576
 few_reads m least =
     let most : 2 ^ m ≤ 2 ^ 20 = pow_mono least in
     omega arith
+
+-- the map of the regions has the blocks of the table
+pub blocks_agree : (table : List ℕ) (q : Query) (regions : List Region) → StandsFor table q
+    → regions ≡ in_order (is_reversed q.extended q.minor (length q.regions.items)) q.regions.items → spans_of regions ≡ table_blocks table
+blocks_agree table q regions stands made =
+    let whole = spans_of (in_order (is_reversed_in (set_of table) table) (regions_of table)) in
+    ap (λ rs. spans_of rs) made
+    ∙ (ap (λ reversed. spans_of (in_order reversed q.regions.items)) (reversed_agrees table q stands)
+    ∙ (ap (λ rs. spans_of (in_order (is_reversed_in (set_of table) table) rs)) stands.regions
+    ∙ sym (ap (λ error. if is_none error then whole else []) stands.checks)))

@@ -2,9 +2,9 @@
 use Rattle.std.proofs.Common.{◌≡◌, ◌<◌, ◌≤◌, ℕ, zero, suc, ◌+◌, ◌*◌, List, [], ◌∷◌, ◌++◌, length, take, get_or, refl, sym, ◌∙◌, ap, arith}
 use Rattle.std.specs.Prelude.{slice_index}
 use Rattle.std.proofs.lemmas.List.{take_more}
-use Rattle.nor_cell.specs.Table.{field_8, field_16}
+use Rattle.nor_cell.specs.Table.{field_16}
 use Rattle.nor_region.specs.declared.region.Region.{Region}
-use Rattle.nor_query.specs.Fields.{field_32, bytes_at, block_size, region_at, regions_at}
+use Rattle.nor_query.specs.Fields.{bytes_at, block_size, region_at, regions_at}
 use Rattle.nor_query.specs.Writing.{SameWithin, HeadReads}
 use Rattle.nor_query.specs.declared.query.Query.{Query}
 use Rattle.nor_query.proofs.Reading.{regions_at_more}
@@ -53,18 +53,18 @@ bytes_move old new a b (suc n) same =
     let zero_b : b + 0 ≡ b = omega arith in
     let first : slice_index new a ≡ slice_index old b = ap (λ p. slice_index new p) zero_a ∙ (same 0 (omega arith) ∙ ap (λ p. slice_index old p) zero_b) in
     let rest = bytes_move old new (a + 1) (b + 1) n (λ k less.
-      let next_a : a + 1 + k ≡ a + (k + 1) = omega arith in
-      let next_b : b + (k + 1) ≡ b + 1 + k = omega arith in
-      ap (λ p. slice_index new p) next_a ∙ (same (k + 1) (omega arith) ∙ ap (λ p. slice_index old p) next_b)) in
+    let next_a : a + 1 + k ≡ a + (k + 1) = omega arith in
+    let next_b : b + (k + 1) ≡ b + 1 + k = omega arith in
+    ap (λ p. slice_index new p) next_a ∙ (same (k + 1) (omega arith) ∙ ap (λ p. slice_index old p) next_b)) in
     ap (λ byte. byte ∷ bytes_at new (a + 1) n) first ∙ ap (λ bytes. slice_index old b ∷ bytes) rest
 
 -- a head that is copied into a table
 pub head_moves : (head table : List ℕ) (q : Query) → ((k : ℕ) → k < 29 → slice_index table (0x10 + k) ≡ slice_index head k) → HeadReads head 0 q → HeadReads table 0x10 q
 head_moves head table q same reads =
     let word : (k : ℕ) → k + 1 < 29 → field_16 table (0x10 + k) ≡ field_16 head k =
-        (λ k less. word_moves head table (0x10 + k) k (same k (omega arith)) (ap (λ p. slice_index table p) (let e : 0x10 + k + 1 ≡ 0x10 + (k + 1) = omega arith in e) ∙ same (k + 1) less)) in
+    (λ k less. word_moves head table (0x10 + k) k (same k (omega arith)) (ap (λ p. slice_index table p) (let e : 0x10 + k + 1 ≡ 0x10 + (k + 1) = omega arith in e) ∙ same (k + 1) less)) in
     let bytes : (b n : ℕ) → b + n ≤ 29 → bytes_at table (0x10 + b) n ≡ bytes_at head b n =
-        (λ b n less. bytes_move head table (0x10 + b) b n (λ k few. ap (λ p. slice_index table p) (let e : 0x10 + b + k ≡ 0x10 + (b + k) = omega arith in e) ∙ same (b + k) (omega arith))) in
+    (λ b n less. bytes_move head table (0x10 + b) b n (λ k few. ap (λ p. slice_index table p) (let e : 0x10 + b + k ≡ 0x10 + (b + k) = omega arith in e) ∙ same (b + k) (omega arith))) in
     record {
       q = same 0 (omega arith) ∙ reads.q;
       r = same 1 (omega arith) ∙ reads.r;

@@ -1,5 +1,5 @@
 -- One table stands for a query: what its fields read and the rest of the query settle each byte.
-use Rattle.std.proofs.Common.{◌≡◌, ◌<◌, ◌≤◌, ℕ, zero, suc, ◌+◌, ◌*◌, ◌-◌, List, [], ◌∷◌, length, refl, sym, ◌∙◌, ap, subst, arith, Bool, true, false, inl, inr}
+use Rattle.std.proofs.Common.{◌≡◌, ◌<◌, ◌≤◌, ℕ, zero, suc, ◌+◌, ◌*◌, ◌-◌, List, length, refl, sym, ◌∙◌, ap, arith, true, inl, inr}
 use Rattle.std.specs.Prelude.{slice_index, ◌==◌, ◌||◌, ◌&&◌, nat_le, nat_lt, if◌then◌else◌}
 use Rattle.std.proofs.lemmas.Bool.{eqb-true, leb-true, ltb-true, and_parts, or_cases, cases_lt, cases_Bool, cond-false}
 use Rattle.std.proofs.lemmas.List.{ext_get_or}
@@ -7,13 +7,10 @@ use Rattle.nor_cell.specs.Bits.{AreBytes}
 use Rattle.nor_cell.specs.Table.{field_8, field_16, extended_at, extended, set_of}
 use Rattle.nor_cell.specs.declared.device.Set.{Set}
 use Rattle.nor_cell.specs.declared.device.Set.TheVariants.{Intel as IntelSet, Amd as AmdSet}
-use Rattle.nor_region.specs.declared.region.Region.{Region}
 use Rattle.nor_query.specs.Fields.{field_32, bytes_at, block_size, region_at, regions_at, region_count, extended_of, is_named, is_named_in, is_named_extended}
 use Rattle.nor_query.specs.Stands.{StandsFor}
 use Rattle.nor_query.specs.Writing.{SameWithin, set_code}
 use Rattle.nor_query.specs.declared.query.Query.{Query}
-use Rattle.nor_query.specs.declared.query.Extended.{Extended}
-use Rattle.nor_query.specs.declared.query.Extended.TheVariants.{Intel, Amd}
 use Rattle.nor_query.proofs.Passing.{Passes, ExtendedPasses, passes}
 use Rattle.nor_query.proofs.Standing.{same_named, length-regions_at}
 
@@ -26,9 +23,9 @@ block_size_one (suc m) (suc n) same = omega arith
 -- the identifier of a set that is known
 set_number : (n : ℕ) → (n == 1 || n == 2) ≡ true → n ≡ set_code (if n == 2 then AmdSet else IntelSet)
 set_number n known = elim (or_cases (n == 1) (n == 2) known) [
-    inl first ↦ (let e : n ≡ 1 = eqb-true n 1 first in e ∙ ap (λ m. set_code (if m == 2 then AmdSet else IntelSet)) (sym e))
+  | inl first ↦ (let e : n ≡ 1 = eqb-true n 1 first in e ∙ ap (λ m. set_code (if m == 2 then AmdSet else IntelSet)) (sym e))
   | inr second ↦ (let e : n ≡ 2 = eqb-true n 2 second in e ∙ ap (λ m. set_code (if m == 2 then AmdSet else IntelSet)) (sym e))
-  ]
+]
 
 word_fits : (table : List ℕ) → AreBytes table → (at : ℕ) → field_16 table at < 65536
 word_fits table bytes at =
@@ -43,9 +40,9 @@ two_halves a b c d low other same = (omega arith, omega arith)
 module _ (t u : List ℕ) (t_bytes : AreBytes t) (u_bytes : AreBytes u) where
   joined : (a b c : ℕ) → SameWithin a b t u → SameWithin b c t u → SameWithin a c t u
   joined a b c first second at low high = elim (cases_lt at b) [
-      inl below ↦ first at low below
+    | inl below ↦ first at low below
     | inr above ↦ second at above high
-    ]
+  ]
 
   byte_same : (at : ℕ) → field_8 u at ≡ field_8 t at → SameWithin at (at + 1) t u
   byte_same at same p low high =
@@ -131,16 +128,16 @@ module _ (t u : List ℕ) (t_bytes : AreBytes t) (u_bytes : AreBytes u) where
       let protect : extended u 9 ≡ extended t 9 = cc in
       let boot : extended u 15 ≡ extended t 15 = cc in
       let moved : (n : ℕ) → extended u n ≡ extended t n → field_8 u (e + n) ≡ field_8 t (e + n) =
-          (λ n same. ap (λ p. field_8 u (p + n)) (sym u_at) ∙ (same ∙ ap (λ p. field_8 t (p + n)) t_at)) in
+      (λ n same. ap (λ p. field_8 u (p + n)) (sym u_at) ∙ (same ∙ ap (λ p. field_8 t (p + n)) t_at)) in
       let single : (n : ℕ) → extended u n ≡ extended t n → (k == n) ≡ true → slice_index u (e + k) ≡ slice_index t (e + k) =
-          (λ n same is. byte_same (e + n) (moved n same) (e + k) (let same_k : k ≡ n = eqb-true k n is in omega arith) (let same_k : k ≡ n = eqb-true k n is in omega arith)) in
+      (λ n same is. byte_same (e + n) (moved n same) (e + k) (let same_k : k ≡ n = eqb-true k n is in omega arith) (let same_k : k ≡ n = eqb-true k n is in omega arith)) in
       elim (or_cases (nat_lt k 5 || k == 6 || k == 9) (k == 15) named) [
-        inr last ↦ single 15 boot last
-      | inl before ↦ elim (or_cases (nat_lt k 5 || k == 6) (k == 9) before) [
-          inr ninth ↦ single 9 protect ninth
-        | inl earlier ↦ elim (or_cases (nat_lt k 5) (k == 6) earlier) [
-            inr sixth ↦ single 6 suspend sixth
-          | inl low ↦ (let less : k < 5 = ltb-true k 5 low in front (e + k) (omega arith) (omega arith))
+        | inr last ↦ single 15 boot last
+        | inl before ↦ elim (or_cases (nat_lt k 5 || k == 6) (k == 9) before) [
+          | inr ninth ↦ single 9 protect ninth
+          | inl earlier ↦ elim (or_cases (nat_lt k 5) (k == 6) earlier) [
+            | inr sixth ↦ single 6 suspend sixth
+            | inl low ↦ (let less : k < 5 = ltb-true k 5 low in front (e + k) (omega arith) (omega arith))
           ]
         ]
       ]
@@ -150,7 +147,7 @@ module _ (t u : List ℕ) (t_bytes : AreBytes t) (u_bytes : AreBytes u) where
   front_same q here there one two =
       let e = q.ext in
       let moved : (n : ℕ) → extended u n ≡ extended t n → field_8 u (e + n) ≡ field_8 t (e + n) =
-          (λ n same. ap (λ p. field_8 u (p + n)) there.ext ∙ (same ∙ ap (λ p. field_8 t (p + n)) (sym here.ext))) in
+      (λ n same. ap (λ p. field_8 u (p + n)) there.ext ∙ (same ∙ ap (λ p. field_8 t (p + n)) (sym here.ext))) in
       let begin : e + 0 ≡ e = omega arith in
       let p : field_8 u e ≡ field_8 t e = ap (λ n. field_8 u n) (sym begin) ∙ (moved 0 (two.p ∙ sym one.p) ∙ ap (λ n. field_8 t n) begin) in
       joined e (e + 1) (e + 5) (byte_same e p)
@@ -168,25 +165,25 @@ module _ (t u : List ℕ) (t_bytes : AreBytes t) (u_bytes : AreBytes u) where
       let other : length q.regions.items ≡ region_count u = ap (λ regions. length regions) there.regions ∙ length-regions_at u 0x2D (region_count u) in
       let n = length q.regions.items in
       let regions : regions_at u 0x2D n ≡ regions_at t 0x2D n =
-          ap (λ k. regions_at u 0x2D k) other ∙ (sym there.regions ∙ (here.regions ∙ ap (λ k. regions_at t 0x2D k) (sym count))) in
+      ap (λ k. regions_at u 0x2D k) other ∙ (sym there.regions ∙ (here.regions ∙ ap (λ k. regions_at t 0x2D k) (sym count))) in
       let named_t = same_named q.set (set_of t) n (region_count t) q.ext (extended_at t) at here.set count here.ext in
       let named_u = same_named q.set (set_of u) n (region_count u) q.ext (extended_at u) at there.set other there.ext in
       let says : extended_of q.set u ≡ extended_of q.set t =
-          ap (λ s. extended_of s u) there.set ∙ (sym there.extended ∙ (here.extended ∙ ap (λ s. extended_of s t) (sym here.set))) in
+      ap (λ s. extended_of s u) there.set ∙ (sym there.extended ∙ (here.extended ∙ ap (λ s. extended_of s t) (sym here.set))) in
       elim (cases_Bool (is_named q.set n q.ext at)) [
-        inr isn't ↦
-          sym (here.rest at less ∙ cond-false (is_named_in t at) 0 (slice_index t at) (sym named_t ∙ isn't))
-          ∙ (there.rest at less ∙ cond-false (is_named_in u at) 0 (slice_index u at) (sym named_u ∙ isn't))
-      | inl is ↦ elim (or_cases (nat_le 0x10 at && nat_lt at (0x2D + 4 * n)) (nat_le q.ext at && is_named_extended q.set (at - q.ext)) is) [
-          inl in_head ↦
-            let both = and_parts (nat_le 0x10 at) (nat_lt at (0x2D + 4 * n)) in_head in
-            sym (joined 0x10 0x2D (0x2D + 4 * n) (head_same q here there one two) (regions_same 0x2D n regions) at (leb-true 0x10 at both.0) (ltb-true at (0x2D + 4 * n) both.1))
-        | inr in_ext ↦
-            let both = and_parts (nat_le q.ext at) (is_named_extended q.set (at - q.ext)) in_ext in
-            let past : q.ext ≤ at = leb-true q.ext at both.0 in
-            let same : q.ext + (at - q.ext) ≡ at = omega arith in
-            let found = says_same q.set q.ext (sym here.ext) (sym there.ext) says (front_same q here there one.ext two.ext) (at - q.ext) both.1 in
-            sym (ap (λ p. slice_index u p) (sym same) ∙ (found ∙ ap (λ p. slice_index t p) same))
+        | inr isn't ↦
+            sym (here.rest at less ∙ cond-false (is_named_in t at) 0 (slice_index t at) (sym named_t ∙ isn't))
+            ∙ (there.rest at less ∙ cond-false (is_named_in u at) 0 (slice_index u at) (sym named_u ∙ isn't))
+        | inl is ↦ elim (or_cases (nat_le 0x10 at && nat_lt at (0x2D + 4 * n)) (nat_le q.ext at && is_named_extended q.set (at - q.ext)) is) [
+          | inl in_head ↦
+              let both = and_parts (nat_le 0x10 at) (nat_lt at (0x2D + 4 * n)) in_head in
+              sym (joined 0x10 0x2D (0x2D + 4 * n) (head_same q here there one two) (regions_same 0x2D n regions) at (leb-true 0x10 at both.0) (ltb-true at (0x2D + 4 * n) both.1))
+          | inr in_ext ↦
+              let both = and_parts (nat_le q.ext at) (is_named_extended q.set (at - q.ext)) in_ext in
+              let past : q.ext ≤ at = leb-true q.ext at both.0 in
+              let same : q.ext + (at - q.ext) ≡ at = omega arith in
+              let found = says_same q.set q.ext (sym here.ext) (sym there.ext) says (front_same q here there one.ext two.ext) (at - q.ext) both.1 in
+              sym (ap (λ p. slice_index u p) (sym same) ∙ (found ∙ ap (λ p. slice_index t p) same))
         ]
       ]
 

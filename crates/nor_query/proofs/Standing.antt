@@ -1,19 +1,18 @@
 -- What a table and the query that it stands for say of each other.
-use Rattle.std.proofs.Common.{◌≡◌, ◌<◌, ◌≤◌, ℕ, zero, suc, ◌+◌, ◌*◌, ◌-◌, ◌^◌, List, [], ◌∷◌, length, refl, sym, ◌∙◌, ap, subst, arith, Bool, true, false}
-use Rattle.std.specs.Prelude.{slice_index, if◌then◌else◌, cond}
+use Rattle.std.proofs.Common.{◌≡◌, ◌<◌, ℕ, zero, suc, ◌+◌, ◌^◌, List, length, refl, sym, ◌∙◌, ap, arith, true}
+use Rattle.std.specs.Prelude.{slice_index}
 use Rattle.std.specs.List.{list_all}
 use Rattle.std.proofs.lemmas.Bool.{cond-true}
 use Rattle.std.proofs.lemmas.List.{ext_get_or}
-use Rattle.nor_cell.specs.Table.{field_8, extended_at, extended, set_of}
+use Rattle.nor_cell.specs.Table.{extended_at, extended, set_of}
 use Rattle.nor_cell.specs.declared.device.Set.{Set}
 use Rattle.nor_cell.specs.declared.device.Set.TheVariants.{Intel as IntelSet, Amd as AmdSet}
 use Rattle.nor_region.specs.Regions.{total_len}
-use Rattle.nor_query.specs.Fields.{regions_at, regions_of, region_count, extended_of, named_len, is_named, is_named_in}
+use Rattle.nor_query.specs.Fields.{regions_at, region_count, extended_of, named_len, is_named, is_named_in}
 use Rattle.nor_query.specs.Stands.{StandsFor}
 use Rattle.nor_query.specs.Valid.{IsValid, is_table_region, set_of_extended}
 use Rattle.nor_query.specs.declared.query.Query.{Query}
-use Rattle.nor_query.specs.declared.query.Extended.{Extended}
-use Rattle.nor_query.proofs.Passing.{Passes, passes}
+use Rattle.nor_query.proofs.Passing.{passes}
 
 -- the same three numbers name the same bytes
 pub same_named : (s t : Set) (m n e f : ℕ) (at : ℕ) → s ≡ t → m ≡ n → e ≡ f → is_named s m e at ≡ is_named t n f at
@@ -53,7 +52,7 @@ one_query table q r here there =
     let minor : q.minor ≡ r.minor = omega (arith, here.minor, there.minor) in
     let len : length q.rest ≡ length r.rest = here.rest_len ∙ sym there.rest_len in
     let free : (at : ℕ) → at < length q.rest → slice_index q.rest at ≡ slice_index r.rest at =
-        λ at less. here.rest at (omega (arith, here.rest_len)) ∙ sym (there.rest at (omega (arith, here.rest_len))) in
+    λ at less. here.rest at (omega (arith, here.rest_len)) ∙ sym (there.rest at (omega (arith, here.rest_len))) in
     same_query q r (here.set ∙ sym there.set) (here.ext ∙ sym there.ext) (here.alt_set ∙ sym there.alt_set) (here.alt_ext ∙ sym there.alt_ext)
     (here.volts ∙ sym there.volts) (here.times ∙ sym there.times) (here.size_log ∙ sym there.size_log) (here.interface ∙ sym there.interface)
     (here.buffer_log ∙ sym there.buffer_log) (ap (λ items. record { items = items }) (here.regions ∙ sym there.regions)) minor

@@ -30,4 +30,5 @@ valid_where_free q free numbers regions few size place rest = (
     inside = place.1;
     rest = rest.0 is;
   },
-  λ is. rest.1 is.rest)
+  λ is. rest.1 is.rest,
+)

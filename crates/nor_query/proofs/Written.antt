@@ -1,6 +1,6 @@
 -- A table in which a valid query is written stands for it.
-use Rattle.std.proofs.Common.{◌≡◌, ◌<◌, ◌≤◌, ℕ, ◌+◌, ◌*◌, ◌-◌, ◌^◌, List, [], ◌∷◌, ◌++◌, length, refl, sym, ◌∙◌, ap, arith, Bool, true, false, inl, inr}
-use Rattle.std.specs.Prelude.{slice_index, ◌==◌, ◌||◌, ◌&&◌, not, nat_le, nat_lt, if◌then◌else◌}
+use Rattle.std.proofs.Common.{◌≡◌, ◌<◌, ◌≤◌, ℕ, ◌+◌, ◌*◌, ◌-◌, ◌^◌, List, [], ◌∷◌, ◌++◌, length, sym, ◌∙◌, ap, arith, true, false, inl, inr}
+use Rattle.std.specs.Prelude.{slice_index, ◌==◌, ◌||◌, ◌&&◌, nat_le, nat_lt, if◌then◌else◌}
 use Rattle.std.proofs.lemmas.Bool.{eq-eqb, ne_eqb, le-leb, lt-ltb, and_from, and_cases, or_parts, not_from_false, both_ways, cases_lt, cases_Bool, cond-true, cond-false}
 use Rattle.nor_cell.specs.Bits.{AreBytes}
 use Rattle.nor_cell.specs.Table.{field_8, field_16, extended_at, extended, set_of}
@@ -67,10 +67,22 @@ module _ (table : List ℕ) (q : Query) (valid : IsValid q) (written : IsWritten
       let high : field_8 table 0x27 ≤ 27 = omega (arith, valid.size_log.1, size) in
       let interface : field_16 table 0x28 ≤ 2 = omega (arith, valid.interface, written.head.interface) in
       let some : region_count table ≡ 0 → ⊥ = (λ none. absurd (omega (arith, valid.some_regions, count_is, none))) in
-      let few : region_count table ≤ 8 = omega (arith, valid.few_regions, count_is) in
-      (eq-eqb (field_8 table 0x10) 0x51 written.head.q, (eq-eqb (field_8 table 0x11) 0x52 written.head.r, (eq-eqb (field_8 table 0x12) 0x59 written.head.y,
-      (set_known q.set (field_16 table 0x13) written.head.set, (and_from _ _ (le-leb 12 (field_8 table 0x27) low) (le-leb (field_8 table 0x27) 27 high),
-      (le-leb (field_16 table 0x28) 2 interface, (not_from_false _ (ne_eqb (region_count table) 0 some), (le-leb (region_count table) 8 few, tt))))))))
+      let few : region_count table ≤ 8 = omega (arith, valid.few_regions, count_is) in (
+        eq-eqb (field_8 table 0x10) 0x51 written.head.q,
+        (
+          eq-eqb (field_8 table 0x11) 0x52 written.head.r,
+          (
+            eq-eqb (field_8 table 0x12) 0x59 written.head.y,
+            (
+              set_known q.set (field_16 table 0x13) written.head.set,
+              (
+                and_from _ _ (le-leb 12 (field_8 table 0x27) low) (le-leb (field_8 table 0x27) 27 high),
+                (le-leb (field_16 table 0x28) 2 interface, (not_from_false _ (ne_eqb (region_count table) 0 some), (le-leb (region_count table) 8 few, tt))),
+              ),
+            ),
+          ),
+        ),
+      )
 
   extended_holds : AllHold (extended_checks table)
   extended_holds =
@@ -79,13 +91,22 @@ module _ (table : List ℕ) (q : Query) (valid : IsValid q) (written : IsWritten
       let inside : e + named_len (set_of table) ≤ 0x200 = omega (arith, valid.inside, ext_is, ap (λ s. named_len s) set_is) in
       let minor = ap (λ p. field_8 table (p + 4)) ext_is ∙ written.ext.minor_is in
       let low : 0x30 ≤ extended table 4 = omega (arith, minor) in
-      let high : extended table 4 ≤ 0x35 = omega (arith, minor, valid.minor) in
-      (and_from _ _ (le-leb (0x2D + 4 * region_count table) e behind) (le-leb (e + named_len (set_of table)) 0x200 inside),
-      (eq-eqb (field_8 table e) 0x50 (ap (λ p. field_8 table p) ext_is ∙ written.ext.p),
-      (eq-eqb (field_8 table (e + 1)) 0x52 (ap (λ p. field_8 table (p + 1)) ext_is ∙ written.ext.r),
-      (eq-eqb (field_8 table (e + 2)) 0x49 (ap (λ p. field_8 table (p + 2)) ext_is ∙ written.ext.i),
-      (eq-eqb (field_8 table (e + 3)) 0x31 (ap (λ p. field_8 table (p + 3)) ext_is ∙ written.ext.major),
-      (and_from _ _ (le-leb 0x30 (extended table 4) low) (le-leb (extended table 4) 0x35 high), tt))))))
+      let high : extended table 4 ≤ 0x35 = omega (arith, minor, valid.minor) in (
+        and_from _ _ (le-leb (0x2D + 4 * region_count table) e behind) (le-leb (e + named_len (set_of table)) 0x200 inside),
+        (
+          eq-eqb (field_8 table e) 0x50 (ap (λ p. field_8 table p) ext_is ∙ written.ext.p),
+          (
+            eq-eqb (field_8 table (e + 1)) 0x52 (ap (λ p. field_8 table (p + 1)) ext_is ∙ written.ext.r),
+            (
+              eq-eqb (field_8 table (e + 2)) 0x49 (ap (λ p. field_8 table (p + 2)) ext_is ∙ written.ext.i),
+              (
+                eq-eqb (field_8 table (e + 3)) 0x31 (ap (λ p. field_8 table (p + 3)) ext_is ∙ written.ext.major),
+                (and_from _ _ (le-leb 0x30 (extended table 4) low) (le-leb (extended table 4) 0x35 high), tt),
+              ),
+            ),
+          ),
+        ),
+      )
 
   sum_holds : (total_len (regions_of table) == 2 ^ field_8 table 0x27) ≡ true
   sum_holds = eq-eqb (total_len (regions_of table)) (2 ^ field_8 table 0x27)
@@ -95,8 +116,8 @@ module _ (table : List ℕ) (q : Query) (valid : IsValid q) (written : IsWritten
   rest_is at less =
       let named = same_named (set_of table) q.set (region_count table) (length q.regions.items) (extended_at table) q.ext at set_is count_is ext_is in
       elim (cases_Bool (is_named_in table at)) [
-        inl is ↦ valid.rest at less (sym named ∙ is) ∙ sym (cond-true (is_named_in table at) 0 (slice_index table at) is)
-      | inr isn't ↦ sym (written.free at less (sym named ∙ isn't)) ∙ sym (cond-false (is_named_in table at) 0 (slice_index table at) isn't)
+        | inl is ↦ valid.rest at less (sym named ∙ is) ∙ sym (cond-true (is_named_in table at) 0 (slice_index table at) is)
+        | inr isn't ↦ sym (written.free at less (sym named ∙ isn't)) ∙ sym (cond-false (is_named_in table at) 0 (slice_index table at) isn't)
       ]
 
   -- the table stands for the query
@@ -105,7 +126,7 @@ module _ (table : List ℕ) (q : Query) (valid : IsValid q) (written : IsWritten
     len = written.len;
     bytes = written.bytes;
     checks = none_fails (head_checks table ++ (extended_checks table ++ sum_check table ∷ []))
-      (both_hold (head_checks table) (extended_checks table ++ sum_check table ∷ []) head_holds (both_hold (extended_checks table) (sum_check table ∷ []) extended_holds (sum_holds, tt)));
+        (both_hold (head_checks table) (extended_checks table ++ sum_check table ∷ []) head_holds (both_hold (extended_checks table) (sum_check table ∷ []) extended_holds (sum_holds, tt)));
     set = sym set_is;
     ext = sym ext_is;
     alt_set = sym written.head.alt_set;
@@ -131,21 +152,21 @@ module _ (q : Query) (head first second table : List ℕ) (valid : IsValid q) (a
       let behind = valid.behind in
       let parts = or_parts (nat_le 0x10 at && nat_lt at (0x2D + 4 * length q.regions.items)) (nat_le q.ext at && is_named_extended q.set (at - q.ext)) unnamed in
       elim (cases_lt at 0x10) [
-        inl low ↦ below_ext at (omega arith) (omega arith) ∙ (below_regions at (omega arith) (omega arith) ∙ below_head at (omega arith) low)
-      | inr past ↦ elim (cases_lt at (0x2D + 4 * length q.regions.items)) [
-          inl inside ↦ absurd (both_ways _ parts.0 (and_from _ _ (le-leb 0x10 at past) (lt-ltb at (0x2D + 4 * length q.regions.items) inside)))
-        | inr later ↦ elim (cases_lt at q.ext) [
-            inl before ↦ below_ext at (omega arith) before ∙ (above_regions at later less ∙ above_head at (omega arith) less)
-          | inr in_ext ↦
-              let same : q.ext + (at - q.ext) ≡ at = omega arith in
-              let kept = above_regions at later less ∙ above_head at (omega arith) less in
-              elim (and_cases (nat_le q.ext at) (is_named_extended q.set (at - q.ext)) parts.1) [
-                inl outside ↦ absurd (both_ways _ outside (le-leb q.ext at in_ext))
-              | inr hidden ↦
-                  ap (λ p. slice_index table p) (sym same)
-                  ∙ (free (at - q.ext) (omega arith) (ap (λ s. is_named_extended s (at - q.ext)) (sym valid.set) ∙ hidden)
-                  ∙ (ap (λ p. slice_index second p) same ∙ kept))
-              ]
+        | inl low ↦ below_ext at (omega arith) (omega arith) ∙ (below_regions at (omega arith) (omega arith) ∙ below_head at (omega arith) low)
+        | inr past ↦ elim (cases_lt at (0x2D + 4 * length q.regions.items)) [
+          | inl inside ↦ absurd (both_ways _ parts.0 (and_from _ _ (le-leb 0x10 at past) (lt-ltb at (0x2D + 4 * length q.regions.items) inside)))
+          | inr later ↦ elim (cases_lt at q.ext) [
+            | inl before ↦ below_ext at (omega arith) before ∙ (above_regions at later less ∙ above_head at (omega arith) less)
+            | inr in_ext ↦
+                let same : q.ext + (at - q.ext) ≡ at = omega arith in
+                let kept = above_regions at later less ∙ above_head at (omega arith) less in
+                elim (and_cases (nat_le q.ext at) (is_named_extended q.set (at - q.ext)) parts.1) [
+                  | inl outside ↦ absurd (both_ways _ outside (le-leb q.ext at in_ext))
+                  | inr hidden ↦
+                      ap (λ p. slice_index table p) (sym same)
+                      ∙ (free (at - q.ext) (omega arith) (ap (λ s. is_named_extended s (at - q.ext)) (sym valid.set) ∙ hidden)
+                      ∙ (ap (λ p. slice_index second p) same ∙ kept))
+                ]
           ]
         ]
       ]

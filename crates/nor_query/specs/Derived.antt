@@ -1,5 +1,5 @@
 -- What a query says beyond its fields, in the words that the chip's own table is read with.
-use Rattle.std.specs.Prelude.{◌+◌, ℕ, List, [], slice_index, length, Bool, false, ◌==◌, ◌&&◌, nat_lt, nat_le, is_none, if◌then◌else◌}
+use Rattle.std.specs.Prelude.{◌+◌, ℕ, List, [], slice_index, Bool, false, ◌==◌, ◌&&◌, nat_lt, nat_le, is_none, if◌then◌else◌}
 use Rattle.nor_cell.specs.Bits.{has_bit}
 use Rattle.nor_cell.specs.Table.{extended, set_of, intel_suspend, amd_suspend, most_reads}
 use Rattle.nor_cell.specs.declared.device.Set.{Set}
@@ -11,7 +11,6 @@ use Rattle.nor_cell.specs.declared.device.Work.TheVariants.{Word, Buffer, Block}
 use Rattle.nor_region.specs.Map.{in_order, spans_of}
 use Rattle.nor_query.specs.Checks.{first_error}
 use Rattle.nor_query.specs.Fields.{region_count, regions_of}
-use Rattle.nor_query.specs.declared.query.Query.{Query}
 use Rattle.nor_query.specs.declared.query.Extended.{Extended}
 use Rattle.nor_query.specs.declared.query.Extended.TheVariants.{Intel, Amd}
 

@@ -1,5 +1,5 @@
 -- What a query table stands for.
-use Rattle.std.specs.Prelude.{◌≡◌, ◌<◌, ◌+◌, ℕ, List, length, slice_index, if◌then◌else◌, Option, None}
+use Rattle.std.specs.Prelude.{◌≡◌, ◌<◌, ◌+◌, ℕ, List, length, slice_index, if◌then◌else◌, None}
 use Rattle.nor_cell.specs.Bits.{AreBytes}
 use Rattle.nor_cell.specs.Table.{field_8, field_16, extended_at, extended, set_of}
 use Rattle.nor_query.specs.Checks.{first_error}

@@ -18,12 +18,20 @@ fn check(holds: bool, at: usize, kind: QueryKind) -> Result<(), QueryError>
     if holds {
         Ok(())
     } else {
-        Err(QueryError { at: at as u16, kind })
+        Err(QueryError {
+            at: at as u16,
+            kind,
+        })
     }
 }
 
 // Three letters stand at a place.
-fn check_letters(table: &[u8; 512], at: usize, letters: [u8; 3], kind: QueryKind) -> Result<(), QueryError>
+fn check_letters(
+    table: &[u8; 512],
+    at: usize,
+    letters: [u8; 3],
+    kind: QueryKind,
+) -> Result<(), QueryError>
     requires { at + 3 ≤ 512 }
     ensures { result_err result ≡ first_of (shows table.now at (nth letters 0) kind ∷ shows table.now (at + 1) (nth letters 1) kind ∷ shows table.now (at + 2) (nth letters 2) kind ∷ []) }
 {
@@ -52,12 +60,24 @@ fn check_head(table: &[u8; 512]) -> Result<(), QueryError>
     let set = word_at(table, place::SET);
     check(is_set(set), place::SET, QueryKind::UnknownSet(set))?;
     let size = table[place::SIZE];
-    check(is_within(12, 27, size), place::SIZE, QueryKind::BadSize(size))?;
+    check(
+        is_within(12, 27, size),
+        place::SIZE,
+        QueryKind::BadSize(size),
+    )?;
     let interface = word_at(table, place::INTERFACE);
-    check(interface <= 2, place::INTERFACE, QueryKind::BadInterface(interface))?;
+    check(
+        interface <= 2,
+        place::INTERFACE,
+        QueryKind::BadInterface(interface),
+    )?;
     let count = table[place::REGION_COUNT];
     check(count != 0, place::REGION_COUNT, QueryKind::NoRegions)?;
-    check(usize::from(count) <= MAX_REGIONS, place::REGION_COUNT, QueryKind::TooManyRegions(count))
+    check(
+        usize::from(count) <= MAX_REGIONS,
+        place::REGION_COUNT,
+        QueryKind::TooManyRegions(count),
+    )
 }
 
 // Whether the extended table lies behind the regions and in the table.
@@ -79,7 +99,11 @@ fn check_extended(table: &[u8; 512]) -> Result<(), QueryError>
     let major = table[ext + place::MAJOR];
     check(major == b'1', ext + place::MAJOR, QueryKind::UnknownVersion)?;
     let minor = table[ext + place::MINOR];
-    check(is_within(b'0', b'5', minor), ext + place::MINOR, QueryKind::UnknownVersion)
+    check(
+        is_within(b'0', b'5', minor),
+        ext + place::MINOR,
+        QueryKind::UnknownVersion,
+    )
 }
 
 // The regions have as many bytes as the chip.
@@ -90,7 +114,11 @@ fn check_sum(table: &[u8; 512]) -> Result<(), QueryError>
 {
     let sum = total_len(&regions_of(table));
     let size = 1 << table[place::SIZE];
-    check(sum == size, place::REGIONS, QueryKind::SizeMismatch { sum, size })
+    check(
+        sum == size,
+        place::REGIONS,
+        QueryKind::SizeMismatch { sum, size },
+    )
 }
 
 // All checks, in their order.

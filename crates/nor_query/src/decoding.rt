@@ -79,7 +79,8 @@ fn is_named_extended(set: Set, at: usize) -> bool
 {
     match set {
         Set::Intel => at < place::INTEL_LEN,
-        Set::Amd => at <= place::MINOR || matches!(at, place::SUSPEND | place::PROTECT | place::BOOT),
+        Set::Amd => at <= place::MINOR
+            || matches!(at, place::SUSPEND | place::PROTECT | place::BOOT),
     }
 }
 

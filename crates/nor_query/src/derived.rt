@@ -2,22 +2,31 @@
 ghost use Rattle.std.specs.Prelude.{◌≡◌, ◌<◌, ◌≤◌, ◌^◌, ℕ, List, length};
 ghost use Rattle.nor_cell.specs.Bits.{has_bit};
 ghost use Rattle.nor_cell.specs.Table.{set_of, suspend_kind, intel_suspend, amd_suspend, has_locks, buffer_units_of, buffer_units, most_reads, limit};
-ghost use Rattle.nor_query.specs.Derived.{suspend_of, locks_of, is_reversed, is_reversed_in, time_of, limit_of};
+ghost use Rattle.nor_query.specs.Derived.{suspend_of, locks_of, is_reversed, is_reversed_in, table_blocks, time_of, limit_of};
 ghost use Rattle.nor_query.specs.Stands.{StandsFor};
+ghost use Rattle.nor_query.specs.Valid.{IsValid};
+ghost use Rattle.nor_region.specs.Map.{in_order, spans_of};
+ghost use Rattle.nor_region.specs.Regions.{total_len};
 
 use crate::{Extended, Query};
 use nor_cell::{Device, SuspendKind, Work};
+use nor_region::{BlockMap, block_map};
 
 // Feature bits of the Intel set, and the bit that offers programming while an erase is suspended.
 const ERASE_SUSPEND: u32 = 1;
+
 const INSTANT_LOCKING: u32 = 5;
+
 const PROGRAM_IN_SUSPEND: u32 = 0;
 
 // Numbers of the Amd set: for the kind of erase suspend, for advanced sector protection, and for a
 // chip that boots from its top.
 const SUSPEND_TO_READ: u8 = 1;
+
 const SUSPEND_TO_PROGRAM: u8 = 2;
+
 const ADVANCED_PROTECTION: u8 = 8;
+
 const TOP_BOOT: u8 = 3;
 
 impl Query {
@@ -34,10 +43,7 @@ impl Query {
         ensures value { result ≡ locks_of self.now.extended }
         ensures chip { (table : List ℕ) → StandsFor table self.now → result ≡ has_locks table }
     {
-        match self.extended {
-            Extended::Intel { features, .. } => has_bit(features, INSTANT_LOCKING),
-            Extended::Amd { protect, .. } => protect == ADVANCED_PROTECTION,
-        }
+        locks_of(self.extended)
     }
 
     /// Whether the last region lies at the lowest address: an Amd chip of version 1.1 or later that
@@ -47,6 +53,16 @@ impl Query {
         ensures chip { (table : List ℕ) → StandsFor table self.now → result ≡ is_reversed_in (set_of table) table }
     {
         is_reversed(self.extended, self.minor, self.regions.len())
+    }
+
+    /// The blocks of the chip, in the order of their addresses.
+    pub fn block_map(&self) -> BlockMap
+        requires { IsValid self.now }
+        ensures regions { result ≡ in_order (is_reversed self.now.extended self.now.minor (length self.now.regions.items)) self.now.regions.items }
+        ensures size { total_len result ≡ 2 ^ self.now.size_log }
+        ensures chip { (table : List ℕ) → StandsFor table self.now → spans_of result ≡ table_blocks table }
+    {
+        block_map(&self.regions, self.reversed(), 1 << self.size_log).unwrap()
     }
 
     /// How many device words the write buffer takes at once, for a chip that is wired so. 0: words
@@ -102,8 +118,20 @@ fn suspend_of(extended: Extended) -> SuspendKind
     ensures { result ≡ suspend_of extended }
 {
     match extended {
-        Extended::Intel { features, in_suspend } => intel_suspend(features, in_suspend),
+        Extended::Intel {
+            features,
+            in_suspend,
+        } => intel_suspend(features, in_suspend),
         Extended::Amd { suspend, .. } => amd_suspend(suspend),
+    }
+}
+
+fn locks_of(extended: Extended) -> bool
+    ensures { result ≡ locks_of extended }
+{
+    match extended {
+        Extended::Intel { features, .. } => has_bit(features, INSTANT_LOCKING),
+        Extended::Amd { protect, .. } => protect == ADVANCED_PROTECTION,
     }
 }
 

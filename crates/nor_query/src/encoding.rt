@@ -58,10 +58,35 @@ fn head_of(q: &Query) -> [u8; 29]
     let buffer = q.buffer_log.to_le_bytes();
     let count = q.regions.len() as u8;
     [
-        b'Q', b'R', b'Y', set[0], set[1], ext[0], ext[1], alt_set[0], alt_set[1], alt_ext[0],
-        alt_ext[1], volts[0], volts[1], volts[2], volts[3], times[0], times[1], times[2], times[3],
-        times[4], times[5], times[6], times[7], q.size_log, interface[0], interface[1], buffer[0],
-        buffer[1], count,
+        b'Q',
+        b'R',
+        b'Y',
+        set[0],
+        set[1],
+        ext[0],
+        ext[1],
+        alt_set[0],
+        alt_set[1],
+        alt_ext[0],
+        alt_ext[1],
+        volts[0],
+        volts[1],
+        volts[2],
+        volts[3],
+        times[0],
+        times[1],
+        times[2],
+        times[3],
+        times[4],
+        times[5],
+        times[6],
+        times[7],
+        q.size_log,
+        interface[0],
+        interface[1],
+        buffer[0],
+        buffer[1],
+        count,
     ]
 }
 
@@ -84,7 +109,11 @@ fn put_regions(table: &mut [u8; 512], regions: &[Region])
     ensures above { SameWithin (0x2D + 4 * length regions.now) 512 table.old table.new }
 {
     for (i, region) in regions.iter().enumerate() {
-        put(table, place::REGIONS + place::REGION_LEN * i, &region_bytes(*region));
+        put(
+            table,
+            place::REGIONS + place::REGION_LEN * i,
+            &region_bytes(*region),
+        );
     }
 }
 
@@ -100,8 +129,15 @@ fn put_extended(table: &mut [u8; 512], ext: usize, minor: u8, extended: Extended
 {
     put(table, ext, &[b'P', b'R', b'I', b'1', b'0' + minor]);
     match extended {
-        Extended::Intel { features, in_suspend } => put_intel(table, ext, features, in_suspend),
-        Extended::Amd { suspend, protect, boot } => put_amd(table, ext, suspend, protect, boot),
+        Extended::Intel {
+            features,
+            in_suspend,
+        } => put_intel(table, ext, features, in_suspend),
+        Extended::Amd {
+            suspend,
+            protect,
+            boot,
+        } => put_amd(table, ext, suspend, protect, boot),
     }
 }
 

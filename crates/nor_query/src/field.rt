@@ -5,8 +5,7 @@ ghost use Rattle.nor_cell.specs.Table.{field_16, extended_at, extended, set_of};
 ghost use Rattle.nor_query.specs.Fields.{field_32, block_size, region_at, region_count, regions_of, extended_of, named_len};
 ghost use Rattle.nor_query.specs.Valid.{is_table_region};
 
-use crate::Extended;
-use crate::place;
+use crate::{Extended, place};
 use arrayvec::ArrayVec;
 use byteorder::{ByteOrder, LittleEndian};
 use nor_cell::Set;

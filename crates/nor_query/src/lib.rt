@@ -21,6 +21,8 @@ mod error;
 mod field;
 mod place;
 mod query;
+#[cfg(test)]
+mod tests;
 mod valid;
 
 pub use decoding::decode;

@@ -19,7 +19,11 @@ impl Query {
     pub fn valid(&self) -> bool
         ensures { IsTrue result ↔ IsValid self.now }
     {
-        self.has_numbers() && self.has_regions() && self.has_size() && self.has_place() && self.has_free_rest()
+        self.has_numbers()
+            && self.has_regions()
+            && self.has_size()
+            && self.has_place()
+            && self.has_free_rest()
     }
 
     fn has_numbers(&self) -> bool
@@ -60,7 +64,9 @@ impl Query {
         ensures { IsTrue result ↔ ((at : ℕ) → at < 512 → IsTrue (is_named self.now.set (length self.now.regions.items) self.now.ext at) → slice_index self.now.rest at ≡ 0) }
     {
         for at in 0..self.rest.len() {
-            if self.rest[at] != 0 && is_named(self.set, self.regions.len(), usize::from(self.ext), at) {
+            if self.rest[at] != 0
+                && is_named(self.set, self.regions.len(), usize::from(self.ext), at)
+            {
                 return false;
             }
         }
@@ -86,6 +92,7 @@ fn are_table_regions(regions: &[Region]) -> bool
 fn is_table_region(region: &Region) -> bool
     ensures { result ≡ is_table_region region.now }
 {
-    let in_range = (1..=65_536).contains(&region.count) && (128..=16_776_960).contains(&region.size);
+    let in_range = (1..=65_536).contains(&region.count)
+        && (128..=16_776_960).contains(&region.size);
     in_range && (region.size == 128 || region.size % 256 == 0)
 }

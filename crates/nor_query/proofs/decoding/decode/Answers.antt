@@ -1,4 +1,4 @@
-use Rattle.std.proofs.Common.{◌≡◌, ap}
+use Rattle.std.proofs.Common.{ap}
 use Rattle.std.specs.Prelude.{Ok}
 use Rattle.nor_query.proofs.Standing.{one_query, valid_of}
 use Rattle.nor_query.proofs.decoding.decode.Goals as goal

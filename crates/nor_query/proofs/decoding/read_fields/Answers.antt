@@ -1,6 +1,6 @@
-use Rattle.std.proofs.Common.{◌≡◌, ◌<◌, ◌+◌, ◌-◌, ℕ, refl, sym, ◌∙◌, ap, arith, rules, length}
+use Rattle.std.proofs.Common.{◌≡◌, ◌+◌, refl, ◌∙◌, ap, arith, rules}
 use Rattle.std.specs.Prelude.{slice_index, if◌then◌else◌}
-use Rattle.nor_cell.specs.Table.{extended_at, extended, set_of}
+use Rattle.nor_cell.specs.Table.{extended_at, set_of}
 use Rattle.nor_query.specs.Fields.{extended_of, region_count}
 use Rattle.nor_query.proofs.Passing.{passes}
 use Rattle.nor_query.proofs.Standing.{same_named}
@@ -32,5 +32,5 @@ returns-clause-stands c =
       extended = c.extended_of.ensures ∙ ap (λ set. extended_of set table) c.set_of-set.ensures;
       rest_len = c.free_bytes-rest.ensures.len;
       rest = λ at less. c.free_bytes-rest.ensures.bytes at less ∙ ap (λ named. if named then 0 else slice_index table at)
-        (same_named c.set_of-set.result (set_of table) c.len.result (region_count table) c.from.result (extended_at table) at c.set_of-set.ensures count ext);
+          (same_named c.set_of-set.result (set_of table) c.len.result (region_count table) c.from.result (extended_at table) at c.set_of-set.ensures count ext);
     }

@@ -1,4 +1,3 @@
-use Rattle.std.proofs.Common.{◌≡◌}
 use Rattle.nor_query.proofs.Deriving.{sixteen_wide}
 use Rattle.nor_query.proofs.derived.buffer_units_of.Goals as goal
 

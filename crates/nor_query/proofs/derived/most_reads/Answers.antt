@@ -1,4 +1,4 @@
-use Rattle.std.proofs.Common.{◌≤◌, arith}
+use Rattle.std.proofs.Common.{arith}
 use Rattle.nor_query.proofs.Deriving.{few_reads}
 use Rattle.nor_query.proofs.derived.most_reads.Goals as goal
 

@@ -1,6 +1,5 @@
-use Rattle.std.proofs.Common.{◌≡◌, ◌<◌, ◌≤◌, ◌+◌, ◌*◌, ℕ, List, length, subst, arith, rules, false}
+use Rattle.std.proofs.Common.{◌≡◌, ◌<◌, ◌+◌, ◌*◌, ℕ, List, length, subst, arith, rules, false}
 use Rattle.std.specs.Prelude.{slice_index}
-use Rattle.nor_cell.specs.Bits.{AreBytes}
 use Rattle.nor_region.specs.declared.region.Region.{Region}
 use Rattle.nor_query.specs.Fields.{regions_at, is_named_extended}
 use Rattle.nor_query.specs.Stands.{StandsFor}
@@ -22,14 +21,14 @@ stands c =
     let items = c.deref.ensures.0 in
     let ext = c.from.ensures in
     let whole = written q c.head_of.result first second table c.requires
-        (λ at low high. c.put.ensures.above at (omega arith) high)
-        (subst (λ (regions : List Region). SameWithin (0x2D + 4 * length regions) 512 first second) items c.put_regions.ensures.above)
-        c.put_extended.ensures.len c.put_extended.ensures.bytes c.head_of.ensures
-        (λ k few. c.put.ensures.inside k (omega arith)) c.put.ensures.below
-        (subst (λ (regions : List Region). regions_at second 0x2D (length regions) ≡ regions) items c.put_regions.ensures.regions) c.put_regions.ensures.below
-        (subst (λ (e : ℕ). ExtendedReads table e q.minor q.extended) ext c.put_extended.ensures.reads)
-        (subst (λ (e : ℕ). SameWithin 0 e second table) ext c.put_extended.ensures.below)
-        (subst (λ (e : ℕ). (k : ℕ) → e + k < 512 → is_named_extended (set_of_extended q.extended) k ≡ false → slice_index table (e + k) ≡ slice_index second (e + k)) ext c.put_extended.ensures.free) in
+    (λ at low high. c.put.ensures.above at (omega arith) high)
+    (subst (λ (regions : List Region). SameWithin (0x2D + 4 * length regions) 512 first second) items c.put_regions.ensures.above)
+    c.put_extended.ensures.len c.put_extended.ensures.bytes c.head_of.ensures
+    (λ k few. c.put.ensures.inside k (omega arith)) c.put.ensures.below
+    (subst (λ (regions : List Region). regions_at second 0x2D (length regions) ≡ regions) items c.put_regions.ensures.regions) c.put_regions.ensures.below
+    (subst (λ (e : ℕ). ExtendedReads table e q.minor q.extended) ext c.put_extended.ensures.reads)
+    (subst (λ (e : ℕ). SameWithin 0 e second table) ext c.put_extended.ensures.below)
+    (subst (λ (e : ℕ). (k : ℕ) → e + k < 512 → is_named_extended (set_of_extended q.extended) k ≡ false → slice_index table (e + k) ≡ slice_index second (e + k)) ext c.put_extended.ensures.free) in
     stands_written table q c.requires whole rest_len
 
 pub returns-clause-stands : goal.returns-clause-stands

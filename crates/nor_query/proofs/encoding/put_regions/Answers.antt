@@ -1,7 +1,4 @@
-use Rattle.std.proofs.Common.{◌≡◌, ◌<◌, ◌≤◌, ◌+◌, ◌*◌, ℕ, length, refl, ◌∙◌, arith, rules}
-use Rattle.std.specs.Prelude.{slice_index}
-use Rattle.nor_region.specs.declared.region.Region.{Region}
-use Rattle.nor_query.specs.Writing.{SameWithin}
+use Rattle.std.proofs.Common.{◌≡◌, length, refl, ◌∙◌, arith, rules}
 use Rattle.nor_query.proofs.Framing.{regions_written}
 use Rattle.nor_query.proofs.encoding.put_regions.Goals as goal
 
@@ -12,7 +9,7 @@ loop-i-preserved c =
     record {
       len = c.put.ensures.len;
       regions = regions_written c.loop-i.table c.put.new.table c.region_bytes.result c.args.regions.now c.loop-i.i _ (record { count = 0; size = 0 })
-        c.loop-i-test.true before.regions c.put.ensures.below (λ k few. c.put.ensures.inside k (omega arith)) c.region_bytes.ensures refl;
+          c.loop-i-test.true before.regions c.put.ensures.below (λ k few. c.put.ensures.inside k (omega arith)) c.region_bytes.ensures refl;
       below = λ at low high. c.put.ensures.below at low (omega arith) ∙ before.below at low high;
       above = λ at low high. c.put.ensures.above at (omega arith) high ∙ before.above at (omega arith) high;
     }

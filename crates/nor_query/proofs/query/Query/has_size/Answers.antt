@@ -1,4 +1,4 @@
-use Rattle.std.proofs.Common.{◌≡◌, true, ◌∙◌, ap}
+use Rattle.std.proofs.Common.{◌∙◌, ap}
 use Rattle.nor_region.specs.Regions.{are_regions}
 use Rattle.nor_query.proofs.Reading.{table_regions}
 use Rattle.nor_query.proofs.query.Query.has_size.Goals as goal
