@@ -33,7 +33,11 @@ fn check_letters(
     kind: QueryKind,
 ) -> Result<(), QueryError>
     requires { at + 3 ≤ 512 }
-    ensures { result_err result ≡ first_of (shows table.now at (nth letters 0) kind ∷ shows table.now (at + 1) (nth letters 1) kind ∷ shows table.now (at + 2) (nth letters 2) kind ∷ []) }
+    ensures { result_err result ≡ first_of (
+        shows table.now at (nth letters 0) kind
+        ∷ shows table.now (at + 1) (nth letters 1) kind
+        ∷ shows table.now (at + 2) (nth letters 2) kind
+        ∷ []) }
 {
     check(table[at] == letters[0], at, kind)?;
     check(table[at + 1] == letters[1], at + 1, kind)?;

@@ -88,7 +88,8 @@ fn is_named_extended(set: Set, at: usize) -> bool
 fn free_bytes(table: &[u8; 512], set: Set, regions: usize, ext: usize) -> [u8; 512]
     requires { regions ≤ 8 }
     ensures len { length result ≡ 512 }
-    ensures bytes { (at : ℕ) → at < 512 → slice_index result at ≡ (if is_named set regions ext at then 0 else slice_index table.now at) }
+    ensures bytes { (at : ℕ) → at < 512
+        → slice_index result at ≡ (if is_named set regions ext at then 0 else slice_index table.now at) }
 {
     let mut rest = *table;
     for at in 0..rest.len() {

@@ -58,7 +58,8 @@ impl Query {
     /// The blocks of the chip, in the order of their addresses.
     pub fn block_map(&self) -> BlockMap
         requires { IsValid self.now }
-        ensures regions { result ≡ in_order (is_reversed self.now.extended self.now.minor (length self.now.regions.items)) self.now.regions.items }
+        ensures regions { let regions = self.now.regions.items in
+            result ≡ in_order (is_reversed self.now.extended self.now.minor (length regions)) regions }
         ensures size { total_len result ≡ 2 ^ self.now.size_log }
         ensures chip { (table : List ℕ) → StandsFor table self.now → spans_of result ≡ table_blocks table }
     {

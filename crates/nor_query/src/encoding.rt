@@ -54,39 +54,14 @@ fn head_of(q: &Query) -> [u8; 29]
     let alt_ext = q.alt_ext.to_le_bytes();
     let volts = q.volts;
     let times = q.times;
-    let interface = q.interface.to_le_bytes();
+    let wires = q.interface.to_le_bytes();
     let buffer = q.buffer_log.to_le_bytes();
     let count = q.regions.len() as u8;
     [
-        b'Q',
-        b'R',
-        b'Y',
-        set[0],
-        set[1],
-        ext[0],
-        ext[1],
-        alt_set[0],
-        alt_set[1],
-        alt_ext[0],
-        alt_ext[1],
-        volts[0],
-        volts[1],
-        volts[2],
-        volts[3],
-        times[0],
-        times[1],
-        times[2],
-        times[3],
-        times[4],
-        times[5],
-        times[6],
-        times[7],
-        q.size_log,
-        interface[0],
-        interface[1],
-        buffer[0],
-        buffer[1],
-        count,
+        b'Q', b'R', b'Y', set[0], set[1], ext[0], ext[1], alt_set[0], alt_set[1], alt_ext[0],
+        alt_ext[1], volts[0], volts[1], volts[2], volts[3], times[0], times[1], times[2], times[3],
+        times[4], times[5], times[6], times[7], q.size_log, wires[0], wires[1], buffer[0],
+        buffer[1], count,
     ]
 }
 
@@ -125,7 +100,8 @@ fn put_extended(table: &mut [u8; 512], ext: usize, minor: u8, extended: Extended
     ensures bytes { AreBytes table.new }
     ensures reads { ExtendedReads table.new ext minor extended }
     ensures below { SameWithin 0 ext table.old table.new }
-    ensures free { (k : ℕ) → ext + k < 512 → is_named_extended (set_of_extended extended) k ≡ false → slice_index table.new (ext + k) ≡ slice_index table.old (ext + k) }
+    ensures free { (k : ℕ) → ext + k < 512 → is_named_extended (set_of_extended extended) k ≡ false
+        → slice_index table.new (ext + k) ≡ slice_index table.old (ext + k) }
 {
     put(table, ext, &[b'P', b'R', b'I', b'1', b'0' + minor]);
     match extended {
@@ -161,7 +137,8 @@ fn put_amd(table: &mut [u8; 512], ext: usize, suspend: u8, protect: u8, boot: u8
     ensures suspend { slice_index table.new (ext + 6) ≡ suspend }
     ensures protect { slice_index table.new (ext + 9) ≡ protect }
     ensures boot { slice_index table.new (ext + 15) ≡ boot }
-    ensures others { (at : ℕ) → at < 512 → at ≢ ext + 6 → at ≢ ext + 9 → at ≢ ext + 15 → slice_index table.new at ≡ slice_index table.old at }
+    ensures others { (at : ℕ) → at < 512 → at ≢ ext + 6 → at ≢ ext + 9 → at ≢ ext + 15
+        → slice_index table.new at ≡ slice_index table.old at }
 {
     table[ext + place::SUSPEND] = suspend;
     table[ext + place::PROTECT] = protect;

@@ -27,7 +27,10 @@ impl Query {
     }
 
     fn has_numbers(&self) -> bool
-        ensures { IsTrue result ↔ ((self.now.set ≡ set_of_extended self.now.extended) × (12 ≤ self.now.size_log) × (self.now.size_log ≤ 27) × (self.now.interface ≤ 2) × (self.now.minor ≤ 5)) }
+        ensures { IsTrue result ↔ (
+            (self.now.set ≡ set_of_extended self.now.extended)
+            × (12 ≤ self.now.size_log) × (self.now.size_log ≤ 27)
+            × (self.now.interface ≤ 2) × (self.now.minor ≤ 5)) }
     {
         self.set == set_of_extended(self.extended)
             && self.size_log >= 12
@@ -37,7 +40,8 @@ impl Query {
     }
 
     fn has_regions(&self) -> bool
-        ensures regions { IsTrue result ↔ ((0 < length self.now.regions.items) × IsTrue (list_all is_table_region self.now.regions.items)) }
+        ensures regions { let regions = self.now.regions.items in
+            IsTrue result ↔ ((0 < length regions) × IsTrue (list_all is_table_region regions)) }
         ensures few { length self.now.regions.items ≤ 8 }
     {
         !self.regions.is_empty() && are_table_regions(&self.regions)
@@ -53,7 +57,9 @@ impl Query {
     }
 
     fn has_place(&self) -> bool
-        ensures { IsTrue result ↔ ((0x2D + 4 * length self.now.regions.items ≤ self.now.ext) × (self.now.ext + named_len self.now.set ≤ 512)) }
+        ensures { IsTrue result ↔ (
+            (0x2D + 4 * length self.now.regions.items ≤ self.now.ext)
+            × (self.now.ext + named_len self.now.set ≤ 512)) }
     {
         let ext = usize::from(self.ext);
         place::REGIONS + place::REGION_LEN * self.regions.len() <= ext
@@ -61,7 +67,9 @@ impl Query {
     }
 
     fn has_free_rest(&self) -> bool
-        ensures { IsTrue result ↔ ((at : ℕ) → at < 512 → IsTrue (is_named self.now.set (length self.now.regions.items) self.now.ext at) → slice_index self.now.rest at ≡ 0) }
+        ensures { IsTrue result ↔ ((at : ℕ) → at < 512
+            → IsTrue (is_named self.now.set (length self.now.regions.items) self.now.ext at)
+            → slice_index self.now.rest at ≡ 0) }
     {
         for at in 0..self.rest.len() {
             if self.rest[at] != 0
