@@ -13,6 +13,7 @@ abbrev pub AllHold : List Check → Type 0
 AllHold [] = Unit {0}
 AllHold (c ∷ checks) = (c.holds ≡ true) × AllHold checks
 
+-- a check that says nothing holds, and leaves the word to the later ones
 one_holds : (b : Bool) (error : QueryError) (later : Option QueryError) → (if b then later else Some error) ≡ None → (b ≡ true) × (later ≡ None)
 one_holds true error later silent = (refl, silent)
 one_holds false error later silent = absurd (cc)
@@ -36,6 +37,7 @@ parts_hold (x ∷ xs) ys all =
     let rest = parts_hold xs ys all.1 in
     ((all.0, rest.0), rest.1)
 
+-- and two groups together
 pub both_hold : (xs ys : List Check) → AllHold xs → AllHold ys → AllHold (xs ++ ys)
 both_hold [] ys all later = later
 both_hold (x ∷ xs) ys all later = (all.0, both_hold xs ys all.1 later)
@@ -52,6 +54,7 @@ pub record HeadPasses (table : List ℕ) : Type 0 where
   pub some : region_count table ≡ 0 → ⊥
   pub few : region_count table ≤ 8
 
+-- the checks of the head say so
 pub head_passes : (table : List ℕ) → AllHold (head_checks table) → HeadPasses table
 head_passes table all =
     let size = and_parts (nat_le 12 (field_8 table 0x27)) (nat_le (field_8 table 0x27) 27) all.1.1.1.1.0 in
@@ -78,6 +81,7 @@ pub record ExtendedPasses (table : List ℕ) : Type 0 where
   pub minor_low : 0x30 ≤ extended table 4
   pub minor_high : extended table 4 ≤ 0x35
 
+-- the checks of the extended table say so
 pub extended_passes : (table : List ℕ) → AllHold (extended_checks table) → ExtendedPasses table
 extended_passes table all =
     let place = and_parts (nat_le (0x2D + 4 * region_count table) (extended_at table)) (nat_le (extended_at table + named_len (set_of table)) 0x200) all.0 in
@@ -99,6 +103,7 @@ pub record Passes (table : List ℕ) : Type 0 where
   pub ext : ExtendedPasses table
   pub sum : total_len (regions_of table) ≡ 2 ^ field_8 table 0x27
 
+-- a table without an error passes each check
 pub passes : (table : List ℕ) → first_error table ≡ None → Passes table
 passes table silent =
     let head = parts_hold (head_checks table) (extended_checks table ++ sum_check table ∷ []) (all_hold (head_checks table ++ (extended_checks table ++ sum_check table ∷ [])) silent) in

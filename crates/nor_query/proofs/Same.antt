@@ -14,6 +14,7 @@ use Rattle.nor_query.specs.declared.query.Query.{Query}
 use Rattle.nor_query.proofs.Passing.{Passes, ExtendedPasses, passes}
 use Rattle.nor_query.proofs.Standing.{same_named, length-regions_at}
 
+-- a block size comes from one number of steps
 block_size_one : (m n : ℕ) → block_size m ≡ block_size n → m ≡ n
 block_size_one zero zero same = refl
 block_size_one zero (suc n) same = absurd (omega arith)
@@ -27,6 +28,7 @@ set_number n known = elim (or_cases (n == 1) (n == 2) known) [
   | inr second ↦ (let e : n ≡ 2 = eqb-true n 2 second in e ∙ ap (λ m. set_code (if m == 2 then AmdSet else IntelSet)) (sym e))
 ]
 
+-- a word of two bytes
 word_fits : (table : List ℕ) → AreBytes table → (at : ℕ) → field_16 table at < 65536
 word_fits table bytes at =
     let low = bytes at in
@@ -38,17 +40,20 @@ two_halves : (a b c d : ℕ) → a < 65536 → c < 65536 → a + 65536 * b ≡ c
 two_halves a b c d low other same = (omega arith, omega arith)
 
 module _ (t u : List ℕ) (t_bytes : AreBytes t) (u_bytes : AreBytes u) where
+  -- two stretches that meet
   joined : (a b c : ℕ) → SameWithin a b t u → SameWithin b c t u → SameWithin a c t u
   joined a b c first second at low high = elim (cases_lt at b) [
     | inl below ↦ first at low below
     | inr above ↦ second at above high
   ]
 
+  -- a byte that reads the same is the same
   byte_same : (at : ℕ) → field_8 u at ≡ field_8 t at → SameWithin at (at + 1) t u
   byte_same at same p low high =
       let e : p ≡ at = omega arith in
       ap (λ n. slice_index u n) e ∙ (same ∙ ap (λ n. slice_index t n) (sym e))
 
+  -- a word that reads the same has the same two bytes
   two_same : (at : ℕ) → field_16 u at ≡ field_16 t at → (slice_index u at ≡ slice_index t at) × (slice_index u (at + 1) ≡ slice_index t (at + 1))
   two_same at same =
       let a = t_bytes at in
@@ -57,11 +62,13 @@ module _ (t u : List ℕ) (t_bytes : AreBytes t) (u_bytes : AreBytes u) where
       let d = u_bytes (at + 1) in
       (omega (arith, a, b, c, d, same), omega (arith, a, b, c, d, same))
 
+  -- and so is the stretch of a word
   word_same : (at : ℕ) → field_16 u at ≡ field_16 t at → SameWithin at (at + 2) t u
   word_same at same =
       let two = two_same at same in
       joined at (at + 1) (at + 2) (byte_same at two.0) (λ p low high. byte_same (at + 1) two.1 p low (omega arith))
 
+  -- of some bytes
   bytes_same : (at n : ℕ) → bytes_at u at n ≡ bytes_at t at n → SameWithin at (at + n) t u
   bytes_same at zero same = λ p low high. absurd (omega arith)
   bytes_same at (suc n) same =
@@ -70,12 +77,14 @@ module _ (t u : List ℕ) (t_bytes : AreBytes t) (u_bytes : AreBytes u) where
       let rest = bytes_same (at + 1) n later in
       joined at (at + 1) (at + suc n) (byte_same at first) (λ p low high. rest p low (omega arith))
 
+  -- of a number of four bytes
   four_same : (at : ℕ) → field_32 u at ≡ field_32 t at → SameWithin at (at + 4) t u
   four_same at same =
       let halves = two_halves (field_16 u at) (field_16 u (at + 2)) (field_16 t at) (field_16 t (at + 2)) (word_fits u u_bytes at) (word_fits t t_bytes at) same in
       let high = word_same (at + 2) halves.1 in
       joined at (at + 2) (at + 4) (word_same at halves.0) (λ p low below. high p low (omega arith))
 
+  -- of a region
   region_same : (at : ℕ) → region_at u at ≡ region_at t at → SameWithin at (at + 4) t u
   region_same at same =
       let count : field_16 u at + 1 ≡ field_16 t at + 1 = ap (λ r. r.count) same in
@@ -84,6 +93,7 @@ module _ (t u : List ℕ) (t_bytes : AreBytes t) (u_bytes : AreBytes u) where
       let high = word_same (at + 2) size in
       joined at (at + 2) (at + 4) low (λ p above below. high p above (omega arith))
 
+  -- of some regions
   regions_same : (at n : ℕ) → regions_at u at n ≡ regions_at t at n → SameWithin at (at + 4 * n) t u
   regions_same at zero same = λ p low high. absurd (omega arith)
   regions_same at (suc n) same =

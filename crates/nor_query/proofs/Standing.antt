@@ -18,10 +18,12 @@ use Rattle.nor_query.proofs.Passing.{passes}
 pub same_named : (s t : Set) (m n e f : ℕ) (at : ℕ) → s ≡ t → m ≡ n → e ≡ f → is_named s m e at ≡ is_named t n f at
 same_named s t m n e f at set count ext = ap (λ x. is_named x m e at) set ∙ (ap (λ x. is_named t x e at) count ∙ ap (λ x. is_named t n x at) ext)
 
+-- as many regions are read as asked for
 pub length-regions_at : (table : List ℕ) (at n : ℕ) → length (regions_at table at n) ≡ n
 length-regions_at table at zero = refl
 length-regions_at table at (suc n) = ap suc (length-regions_at table (at + 4) n)
 
+-- what a set's table says is of that set
 set-extended_of : (set : Set) (table : List ℕ) → set_of_extended (extended_of set table) ≡ set
 set-extended_of IntelSet table = refl
 set-extended_of AmdSet table = refl

@@ -33,6 +33,7 @@ set_read : (set : Set) (n : ℕ) → n ≡ set_code set → (if n == 2 then AmdS
 set_read IntelSet n same = ap (λ m. if m == 2 then AmdSet else IntelSet) same
 set_read AmdSet n same = ap (λ m. if m == 2 then AmdSet else IntelSet) same
 
+-- and it is one of the two that are known
 set_known : (set : Set) (n : ℕ) → n ≡ set_code set → (n == 1 || n == 2) ≡ true
 set_known IntelSet n same = ap (λ m. m == 1 || m == 2) same
 set_known AmdSet n same = ap (λ m. m == 1 || m == 2) same
@@ -48,18 +49,23 @@ said table ext (Amd suspend protect boot) place says =
     ∙ ap (λ b. Amd (extended table 6) (extended table 9) b) (sym says.2 ∙ ap (λ p. field_8 table (p + 15)) (sym place)))
 
 module _ (table : List ℕ) (q : Query) (valid : IsValid q) (written : IsWritten table q) where
+  -- the table's numbers are the query's: where the extended table begins
   ext_is : extended_at table ≡ q.ext
   ext_is = written.head.ext
 
+  -- how many regions it has
   count_is : region_count table ≡ length q.regions.items
   count_is = written.head.count
 
+  -- its set
   set_is : set_of table ≡ q.set
   set_is = set_read q.set (field_16 table 0x13) written.head.set
 
+  -- its regions
   regions_is : regions_of table ≡ q.regions.items
   regions_is = ap (λ n. regions_at table 0x2D n) count_is ∙ written.regions
 
+  -- each check of the head holds
   head_holds : AllHold (head_checks table)
   head_holds =
       let size = written.head.size_log in
@@ -84,6 +90,7 @@ module _ (table : List ℕ) (q : Query) (valid : IsValid q) (written : IsWritten
         ),
       )
 
+  -- each check of the extended table holds
   extended_holds : AllHold (extended_checks table)
   extended_holds =
       let e = extended_at table in
@@ -108,10 +115,12 @@ module _ (table : List ℕ) (q : Query) (valid : IsValid q) (written : IsWritten
         ),
       )
 
+  -- the regions have as many bytes as the chip
   sum_holds : (total_len (regions_of table) == 2 ^ field_8 table 0x27) ≡ true
   sum_holds = eq-eqb (total_len (regions_of table)) (2 ^ field_8 table 0x27)
       (ap (λ regions. total_len regions) regions_is ∙ (valid.sum ∙ ap (λ n. 2 ^ n) (sym written.head.size_log)))
 
+  -- the rest has the free bytes, and 0 in the named places
   rest_is : (at : ℕ) → at < 512 → slice_index q.rest at ≡ (if is_named_in table at then 0 else slice_index table at)
   rest_is at less =
       let named = same_named (set_of table) q.set (region_count table) (length q.regions.items) (extended_at table) q.ext at set_is count_is ext_is in

@@ -12,6 +12,7 @@ use Rattle.nor_region.specs.Map.{blocks_from, laid, scaled_region, scaled_span}
 use Rattle.nor_region.specs.Regions.{region_len, total_len}
 use Rattle.nor_region.specs.declared.region.Region.{Region}
 
+-- a region has as many blocks as it counts
 pub length-blocks_from : (from count size : ℕ) → length (blocks_from from count size) ≡ count
 length-blocks_from from zero size = refl
 length-blocks_from from (suc count) size = ap suc (length-blocks_from (from + size) count size)
@@ -89,6 +90,7 @@ blocks_from-scaled (suc count) from size lanes =
     ap (λ spans. record { from = lanes * from; len = lanes * size } ∷ spans)
     (ap (λ n. blocks_from n count (lanes * size)) same ∙ blocks_from-scaled count (from + size) size lanes)
 
+-- wider regions, end to end, have wider blocks
 pub laid-scaled : (regions : List Region) (from lanes : ℕ) → laid (lanes * from) (map (scaled_region lanes) regions) ≡ map (scaled_span lanes) (laid from regions)
 laid-scaled [] from lanes = refl
 laid-scaled (region ∷ regions) from lanes =
@@ -100,6 +102,7 @@ laid-scaled (region ∷ regions) from lanes =
     ∙ (ap (λ spans. spans ++ laid (lanes * (from + len)) (map (scaled_region lanes) regions)) (blocks_from-scaled region.count from region.size lanes)
     ∙ (ap (λ spans. map (scaled_span lanes) blocks ++ spans) (laid-scaled regions (from + len) lanes) ∙ sym (map-append (scaled_span lanes) blocks rest)))
 
+-- the bytes of one region and the rest, scaled
 widen : (count size lanes rest : ℕ) → count * (lanes * size) + lanes * rest ≡ lanes * (count * size + rest)
 widen count size lanes rest = omega arith
 

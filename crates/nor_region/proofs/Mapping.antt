@@ -20,19 +20,23 @@ pub total_len-in_order : (reversed : Bool) (regions : List Region) → total_len
 total_len-in_order true regions = sum_by-IsPermutation region_len regions (reverse regions) (IsPermutation-reverse regions)
 total_len-in_order false regions = refl
 
+-- the order keeps the number of regions
 length-in_order : (reversed : Bool) (regions : List Region) → length (in_order reversed regions) ≡ length regions
 length-in_order true regions = length-reverse regions
 length-in_order false regions = refl
 
+-- what holds of each region holds in any order
 All-in_order : (P : Region → Type 0) (reversed : Bool) (regions : List Region) → All P regions → All P (in_order reversed regions)
 All-in_order P true regions all = All-permutation P regions (reverse regions) (IsPermutation-reverse regions) all
 All-in_order P false regions all = all
 
+-- a region has a block
 some_blocks : (region : Region) → is_region region ≡ true → 0 < region.count
 some_blocks region is =
     let low = leb-true 1 region.count (and_parts _ _ (and_parts _ _ (and_parts _ _ is).0).0).0 in
     omega arith
 
+-- a region's blocks have a byte
 some_bytes : (region : Region) → is_region region ≡ true → 0 < region.size
 some_bytes region is =
     let low = leb-true 128 region.size (and_parts _ _ (and_parts _ _ is).0).1 in
@@ -52,6 +56,7 @@ are_map reversed regions are some few total =
       total = omega arith;
     }
 
+-- nor are they empty when scaled
 scaled_some : (lanes size : ℕ) → 0 < lanes → 0 < size → 0 < lanes * size
 scaled_some lanes size some bytes =
     let each : 1 * size ≤ lanes * size = mul-le-mul_right size (let one : 1 ≤ lanes = omega arith in one) in
@@ -86,8 +91,10 @@ module _ (regions : List Region) where
   pub block_found : (at : ℕ) → at < total_len regions → block_at (spans_of regions) at < length (spans_of regions)
   block_found at inside = found (spans_of regions) (0 + total_len regions) 0 at (follow-laid regions 0) (omega arith) (omega arith)
 
+  -- it has the place
   pub block_within : (at : ℕ) → at < total_len regions → is_within (block (spans_of regions) (block_at (spans_of regions) at)) at ≡ true
   block_within at inside = within (spans_of regions) (0 + total_len regions) 0 at (follow-laid regions 0) (omega arith) (omega arith)
 
+  -- and no other block has it
   pub block_only : (at b : ℕ) → b < length (spans_of regions) → is_within (block (spans_of regions) b) at ≡ true → b ≡ block_at (spans_of regions) at
   block_only at b inside here = only (spans_of regions) (0 + total_len regions) 0 at b (follow-laid regions 0) inside here
