@@ -1,0 +1,432 @@
+//! Tables of parts that exist, and each check at its border.
+mod tables;
+
+ghost use Rattle.std.specs.Prelude.{◌≡◌, Ok};
+ghost use Rattle.nor_query.specs.Valid.{IsValid};
+
+use crate::{Extended, Query, QueryError, QueryKind, decode, encode};
+use nor_cell::{Device, Set, SuspendKind, Work};
+use nor_region::Region;
+use std::process::Abort;
+use std::test::Fail;
+
+// A query that is written is read again.
+fn again(q: &Query) -> Result<Query, QueryError>
+    requires { IsValid q.now }
+    ensures { result ≡ Ok q.now }
+{
+    decode(&encode(q))
+}
+
+#[test]
+fn tables_are_read_and_written_back(rt: HostRuntime) -> Result<(), Fail> {
+    let mut without_buffer = tables::intel();
+    without_buffer[0x2A] = 0;
+    let mut on_eight_wires = tables::intel();
+    on_eight_wires[0x28] = 0;
+    let mut in_byte_mode = tables::amd();
+    in_byte_mode[0x28] = 2;
+    let all = [
+        tables::intel(),
+        without_buffer,
+        on_eight_wires,
+        tables::amd(),
+        in_byte_mode,
+        tables::top_boot(),
+        tables::large(),
+        tables::musicpal_bottom(),
+        tables::musicpal_top(),
+        tables::zynq(),
+        tables::ml605(),
+        tables::riscv_virt(),
+        tables::arm_virt(),
+    ];
+    for table in &all {
+        let query = decode(table)?;
+        assert!(rt; query.valid());
+        assert!(rt; encode(&query) == *table);
+        assert!(rt; again(&query)? == query);
+    }
+    Ok(())
+}
+
+#[test]
+fn each_field_has_its_place(rt: HostRuntime) -> Result<(), Fail> {
+    let mut table = tables::large();
+    table[0x0F] = 0xAA;
+    table[0x17..0x1B].copy_from_slice(&[3, 0, 0x50, 1]);
+    table[0x109] = 0xBB;
+    table[0x1FF] = 0xCC;
+    let query = decode(&table)?;
+    assert_eq!(rt; query.set, Set::Intel);
+    assert_eq!(rt;
+        (query.ext, query.alt_set, query.alt_ext),
+        (0x10A, 3, 0x150)
+    );
+    assert_eq!(rt; query.volts, [0x17, 0x20, 0, 0]);
+    assert_eq!(rt; query.times, [8, 9, 10, 0, 1, 1, 2, 0]);
+    assert_eq!(rt;
+        (
+            query.size_log,
+            query.interface,
+            query.buffer_log,
+            query.minor
+        ),
+        (23, 1, 5, 3)
+    );
+    let regions = [
+        Region {
+            count: 4,
+            size: 0x8000,
+        },
+        Region {
+            count: 63,
+            size: 0x20000,
+        },
+    ];
+    assert_eq!(rt; query.regions.as_slice(), regions.as_slice());
+    assert_eq!(rt;
+        query.extended,
+        Extended::Intel {
+            features: 0x22,
+            in_suspend: 1
+        }
+    );
+    assert_eq!(rt;
+        (query.rest[0x0F], query.rest[0x109], query.rest[0x1FF]),
+        (0xAA, 0xBB, 0xCC)
+    );
+    assert_eq!(rt;
+        (query.rest[0x10], query.rest[0x30], query.rest[0x10A]),
+        (0, 0, 0)
+    );
+    assert!(rt; encode(&query) == table);
+    Ok(())
+}
+
+fn fails(rt: &impl Abort, changes: &[(usize, u8, u16, QueryKind)]) {
+    for (at, byte, place, kind) in changes {
+        let mut table = tables::intel();
+        assert!(rt; *at < 512);
+        table[*at] = *byte;
+        assert_eq!(rt;
+            decode(&table).err(),
+            Some(QueryError {
+                at: *place,
+                kind: *kind
+            }),
+            "{at:x}: {byte:x}"
+        );
+    }
+}
+
+#[test]
+fn the_first_check_that_fails_is_named(rt: HostRuntime) {
+    assert_eq!(rt;
+        decode(&[0; 512]).err(),
+        Some(QueryError {
+            at: 0x10,
+            kind: QueryKind::NoQry
+        })
+    );
+    fails(
+        &rt,
+        &[
+            (0x10, 0x00, 0x10, QueryKind::NoQry),
+            (0x10, 0xFF, 0x10, QueryKind::NoQry),
+            (0x11, 0x00, 0x11, QueryKind::NoQry),
+            (0x11, 0xFF, 0x11, QueryKind::NoQry),
+            (0x12, 0x00, 0x12, QueryKind::NoQry),
+            (0x12, 0xFF, 0x12, QueryKind::NoQry),
+            (0x13, 0x00, 0x13, QueryKind::UnknownSet(0)),
+            (0x13, 0x03, 0x13, QueryKind::UnknownSet(3)),
+            (0x13, 0xFF, 0x13, QueryKind::UnknownSet(0xFF)),
+            (0x14, 0xFF, 0x13, QueryKind::UnknownSet(0xFF01)),
+            (0x27, 0x00, 0x27, QueryKind::BadSize(0)),
+            (0x27, 0x0B, 0x27, QueryKind::BadSize(11)),
+            (0x27, 0x1C, 0x27, QueryKind::BadSize(28)),
+            (0x27, 0xFF, 0x27, QueryKind::BadSize(255)),
+            (0x28, 0x03, 0x28, QueryKind::BadInterface(3)),
+            (0x28, 0xFF, 0x28, QueryKind::BadInterface(0xFF)),
+            (0x29, 0xFF, 0x28, QueryKind::BadInterface(0xFF01)),
+            (0x2C, 0x00, 0x2C, QueryKind::NoRegions),
+            (0x2C, 0x09, 0x2C, QueryKind::TooManyRegions(9)),
+            (0x2C, 0xFF, 0x2C, QueryKind::TooManyRegions(255)),
+        ],
+    );
+    fails(
+        &rt,
+        &[
+            (0x15, 0x30, 0x15, QueryKind::BadExtended),
+            (0x16, 0x02, 0x15, QueryKind::BadExtended),
+            (0x31, 0x51, 0x31, QueryKind::BadExtended),
+            (0x32, 0x51, 0x32, QueryKind::BadExtended),
+            (0x33, 0x51, 0x33, QueryKind::BadExtended),
+            (0x34, 0x32, 0x34, QueryKind::UnknownVersion),
+            (0x35, 0x2F, 0x35, QueryKind::UnknownVersion),
+            (0x35, 0x36, 0x35, QueryKind::UnknownVersion),
+        ],
+    );
+    fails(
+        &rt,
+        &[
+            (
+                0x2D,
+                0x00,
+                0x2D,
+                QueryKind::SizeMismatch {
+                    sum: 1024,
+                    size: 8192,
+                },
+            ),
+            (
+                0x2D,
+                0x06,
+                0x2D,
+                QueryKind::SizeMismatch {
+                    sum: 7168,
+                    size: 8192,
+                },
+            ),
+            (
+                0x2D,
+                0xFF,
+                0x2D,
+                QueryKind::SizeMismatch {
+                    sum: 262_144,
+                    size: 8192,
+                },
+            ),
+            (
+                0x2E,
+                0xFF,
+                0x2D,
+                QueryKind::SizeMismatch {
+                    sum: 66_854_912,
+                    size: 8192,
+                },
+            ),
+            (
+                0x2F,
+                0x00,
+                0x2D,
+                QueryKind::SizeMismatch {
+                    sum: 1024,
+                    size: 8192,
+                },
+            ),
+            (
+                0x2F,
+                0xFF,
+                0x2D,
+                QueryKind::SizeMismatch {
+                    sum: 522_240,
+                    size: 8192,
+                },
+            ),
+            (
+                0x30,
+                0xFF,
+                0x2D,
+                QueryKind::SizeMismatch {
+                    sum: 133_701_632,
+                    size: 8192,
+                },
+            ),
+        ],
+    );
+}
+
+#[test]
+fn these_bytes_may_change(rt: HostRuntime) -> Result<(), Fail> {
+    for (at, byte) in [
+        (0x14, 0),
+        (0x28, 0),
+        (0x29, 0),
+        (0x2A, 0),
+        (0x2A, 0xFF),
+        (0x2B, 0),
+        (0x2B, 0xFF),
+        (0x2E, 0),
+        (0x30, 0),
+    ] {
+        let mut table = tables::intel();
+        assert!(rt; at < 512);
+        table[at] = byte;
+        let query = decode(&table)?;
+        assert!(rt; encode(&query) == table);
+    }
+    Ok(())
+}
+
+#[test]
+fn a_top_boot_chip_has_its_last_region_first(rt: HostRuntime) -> Result<(), Fail> {
+    let map = decode(&tables::top_boot())?.block_map();
+    let regions = [
+        Region {
+            count: 3,
+            size: 1024,
+        },
+        Region {
+            count: 7,
+            size: 128,
+        },
+        Region {
+            count: 1,
+            size: 128,
+        },
+    ];
+    assert_eq!(rt; map.regions(), regions.as_slice());
+    assert_eq!(rt; map.blocks(), 11);
+    Ok(())
+}
+
+// Suspend, locks, reversed, buffer units for the three devices, limits for the three works.
+fn says(
+    rt: &impl Abort,
+    table: &[u8; 512],
+    suspend: SuspendKind,
+    locks: bool,
+    reversed: bool,
+    units: [u16; 3],
+    limits: [u32; 3],
+) -> Result<(), Fail> {
+    let query = decode(table)?;
+    assert_eq!(rt; query.suspend_kind(), suspend);
+    assert_eq!(rt; query.has_locks(), locks);
+    assert_eq!(rt; query.reversed(), reversed);
+    let [x8, x16, x16_byte] = units;
+    assert_eq!(rt; query.buffer_units(Device::X8), x8);
+    assert_eq!(rt; query.buffer_units(Device::X16), x16);
+    assert_eq!(rt; query.buffer_units(Device::X16Byte), x16_byte);
+    let [word, buffer, block] = limits;
+    assert_eq!(rt; query.limit(Work::Word), word);
+    assert_eq!(rt; query.limit(Work::Buffer), buffer);
+    assert_eq!(rt; query.limit(Work::Block), block);
+    Ok(())
+}
+
+#[test]
+fn what_a_chip_offers(rt: HostRuntime) -> Result<(), Fail> {
+    says(
+        &rt,
+        &tables::intel(),
+        SuspendKind::Program,
+        true,
+        false,
+        [32, 16, 0],
+        [80, 272, 4112],
+    )?;
+    says(
+        &rt,
+        &tables::amd(),
+        SuspendKind::Program,
+        true,
+        false,
+        [32, 16, 0],
+        [80, 272, 4112],
+    )?;
+    says(
+        &rt,
+        &tables::top_boot(),
+        SuspendKind::Program,
+        true,
+        true,
+        [32, 16, 0],
+        [80, 272, 4112],
+    )?;
+    says(
+        &rt,
+        &tables::large(),
+        SuspendKind::Program,
+        true,
+        false,
+        [32, 16, 0],
+        [528, 1040, 4112],
+    )?;
+    says(
+        &rt,
+        &tables::musicpal_top(),
+        SuspendKind::Program,
+        false,
+        false,
+        [0, 0, 0],
+        [272, 17, 524_304],
+    )?;
+    says(
+        &rt,
+        &tables::ml605(),
+        SuspendKind::None,
+        false,
+        false,
+        [256, 256, 0],
+        [2064, 2064, 16_400],
+    )?;
+    let mut table = tables::intel();
+    table[0x1F] = 0xFF;
+    table[0x2A] = 1;
+    table[0x36] = 2;
+    table[0x3A] = 2;
+    says(
+        &rt,
+        &table,
+        SuspendKind::Read,
+        false,
+        false,
+        [2, 0, 0],
+        [1_048_592, 272, 4112],
+    )?;
+    let mut version_0 = tables::top_boot();
+    version_0[0x3D] = 0x30;
+    version_0[0x3F] = 1;
+    version_0[0x42] = 0;
+    says(
+        &rt,
+        &version_0,
+        SuspendKind::Read,
+        false,
+        false,
+        [32, 16, 0],
+        [80, 272, 4112],
+    )?;
+    Ok(())
+}
+
+#[test]
+fn queries_that_no_table_can_stand_for(rt: HostRuntime) -> Result<(), Fail> {
+    let mut named_byte = decode(&tables::intel())?;
+    named_byte.rest[0x31] = 1;
+    assert!(rt; !named_byte.valid());
+    let mut free_byte = decode(&tables::intel())?;
+    free_byte.rest[0x3B] = 1;
+    assert!(rt; free_byte.valid());
+    let mut other_set = decode(&tables::intel())?;
+    other_set.set = Set::Amd;
+    assert!(rt; !other_set.valid());
+    let mut minor = decode(&tables::intel())?;
+    minor.minor = 6;
+    assert!(rt; !minor.valid());
+    let mut regions = decode(&tables::intel())?;
+    regions.ext = 0x39;
+    regions.regions.clear();
+    regions.regions.push(Region {
+        count: 1,
+        size: 256,
+    });
+    regions.regions.push(Region {
+        count: 62,
+        size: 128,
+    });
+    assert!(rt; regions.valid());
+    regions.regions.clear();
+    regions.regions.push(Region {
+        count: 2,
+        size: 192,
+    });
+    regions.regions.push(Region {
+        count: 61,
+        size: 128,
+    });
+    assert!(rt; !regions.valid());
+    Ok(())
+}

@@ -1,0 +1,5 @@
+pub mod Following
+pub mod Laying
+pub mod Mapping
+pub mod Sizes
+pub mod Stepping
