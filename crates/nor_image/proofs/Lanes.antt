@@ -1,5 +1,5 @@
 -- Records that are read one after another.
-use Rattle.std.proofs.Common.{◌≡◌, ◌≢◌, ◌<◌, ◌≤◌, ◌⊎◌, inl, inr, ◌+◌, ◌*◌, ℕ, zero, suc, List, [], ◌∷◌, ◌++◌, length, map, Bool, true, false, IsTrue, nat_lt, refl, sym, ap, subst, ◌∙◌, arith, add-one, get_or, Option, Some, None}
+use Rattle.std.proofs.Common.{◌≡◌, ◌≢◌, ◌<◌, ◌≤◌, ◌⊎◌, inl, inr, ◌+◌, ◌*◌, ℕ, zero, suc, List, [], ◌∷◌, ◌++◌, length, map, true, false, nat_lt, refl, sym, ap, subst, ◌∙◌, arith, add-one, Some, None}
 use Rattle.std.proofs.Math.ListN.{get_or-append}
 use Rattle.std.proofs.Math.Seq.{get_or-append_seam}
 use Rattle.std.proofs.lemmas.Bool.{cases_eq}
@@ -12,7 +12,7 @@ use Rattle.nor_cell.specs.Power.{powered}
 use Rattle.nor_cell.specs.declared.cells.Cells.{Cells}
 use Rattle.nor_cell.specs.declared.device.Set.{Set}
 use Rattle.nor_bus.specs.Bus.{chip_at, no_chip}
-use Rattle.nor_image.specs.Image.{first_refusal, record_fields, fields_before, header_fields, record_place, record_end, lanes_of_file, device_of, weak_count, size_in, chip_in, trailing, image_refusal}
+use Rattle.nor_image.specs.Image.{first_refusal, record_fields, fields_before, header_fields, record_place, record_end, lanes_of_file, device_of, size_in, chip_in, trailing, image_refusal}
 use Rattle.nor_image.specs.Reading.{AreStored, AreChips, chips_of}
 use Rattle.nor_image.specs.declared.error.ImageError.{ImageError}
 use Rattle.nor_image.specs.declared.error.ImageError.TheVariants.{Trailing}
