@@ -1,5 +1,5 @@
 -- Cells that change within a range.
-use Rattle.std.proofs.Common.{◌≡◌, ◌+◌, ◌<◌, ◌≤◌, ◌-◌, ◌^◌, ℕ, sym, subst, ap, arith, ◌∙◌, Bool, true, false, List, length, slice_index, bit_and, bit_or}
+use Rattle.std.proofs.Common.{◌≡◌, ◌<◌, ℕ, sym, subst, ap, arith, ◌∙◌, false, List, slice_index, bit_and, bit_or}
 use Rattle.std.proofs.lemmas.Nat.{and_comm, and_assoc, and_or_self, and_mask, or_comm, or_lt}
 use Rattle.nor_cell.specs.Bits.{IsBetween, ChangesWithin}
 use Rattle.nor_cell.specs.Chip.{span_end}

@@ -1,10 +1,10 @@
 -- What a loss of power leaves.
-use Rattle.std.proofs.Common.{◌≡◌, ◌+◌, ◌-◌, ◌<◌, ◌≤◌, ◌^◌, ℕ, refl, sym, subst, ap, arith, ◌∙◌, Bool, true, false, ◌&&◌, ◌||◌, nat_lt, nat_le, List, length, slice_index, bit_and, bit_or}
+use Rattle.std.proofs.Common.{◌≡◌, ◌<◌, ◌≤◌, ℕ, refl, sym, subst, ap, arith, ◌∙◌, Bool, true, false, ◌||◌, nat_lt, List, length, slice_index, bit_or}
 use Rattle.std.proofs.lemmas.Bool.Decides.{nat_tests}
 use Rattle.std.proofs.lemmas.Nat.{and_le_r}
 use Rattle.nor_cell.specs.Bits.{IsBetween, ChangesWithin, AreBytes}
-use Rattle.nor_cell.specs.Chip.{ChipState, Job, Idle, Program, Erase, Pausing, Held, NotHeld, Holds, block, span_end, is_within}
-use Rattle.nor_cell.specs.Power.{Cuts, erases_at, holds_at, programs_at, datum_at, is_erasing_at}
+use Rattle.nor_cell.specs.Chip.{ChipState, span_end, is_within}
+use Rattle.nor_cell.specs.Power.{Cuts, holds_at, programs_at, datum_at, is_erasing_at}
 use Rattle.nor_cell.specs.Simulated.{CutsJob, CutsHeld, CutsBy}
 use Rattle.nor_cell.specs.Steps.{Keeps}
 use Rattle.nor_cell.specs.declared.device.Span.{Span}

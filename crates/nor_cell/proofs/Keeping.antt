@@ -1,11 +1,10 @@
 -- What no cycle changes.
-use Rattle.std.proofs.Common.{◌≡◌, ◌+◌, ◌-◌, ◌<◌, ◌≤◌, ℕ, refl, sym, subst, ap, arith, ◌∙◌, Bool, true, false, cond, nat_lt, if◌then◌else◌, List, length, slice_index, bit_and, unwrap_or, length-set}
+use Rattle.std.proofs.Common.{◌≡◌, ◌+◌, ◌-◌, ◌<◌, ◌≤◌, ℕ, refl, ap, arith, Bool, true, false, nat_lt, List, length, slice_index, unwrap_or}
 use Rattle.std.proofs.lemmas.Bool.Decides.{nat_tests}
 use Rattle.std.proofs.lemmas.Nat.{and_le_l, and_le_r}
 use Rattle.nor_cell.specs.Bits.{ChangesWithin, AreBytes, unit_len}
-use Rattle.nor_cell.specs.Chip.{ChipState, Fault, NoFault, covered}
-use Rattle.nor_cell.specs.Look.{Look, Rests, Works, Pauses, EndsProgram, EndsErase, look, looked, LooksTo, break_of, ProgramsByte, Programmed, Erased}
-use Rattle.nor_cell.specs.Intel.{IntelReads}
+use Rattle.nor_cell.specs.Chip.{ChipState}
+use Rattle.nor_cell.specs.Look.{Look, Rests, Works, Pauses, EndsProgram, EndsErase, look, looked, LooksTo, break_of, ProgramsByte}
 use Rattle.nor_cell.specs.Steps.{Keeps}
 
 -- bytes that change within a range stay bytes where those in it do

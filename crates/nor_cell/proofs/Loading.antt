@@ -1,10 +1,10 @@
 -- Buffer loads.
-use Rattle.std.proofs.Common.{◌≡◌, ◌+◌, ◌-◌, ◌*◌, ◌/◌, ◌<◌, ◌≤◌, ◌^◌, ℕ, zero, suc, refl, sym, subst, ap, arith, ◌∙◌, Bool, true, false, ◌&&◌, ◌==◌, List, [], ◌∷◌, ◌++◌, length, length-append}
+use Rattle.std.proofs.Common.{◌≡◌, ◌+◌, ◌-◌, ◌*◌, ◌/◌, ◌<◌, ◌≤◌, ℕ, zero, suc, refl, sym, ap, arith, ◌∙◌, Bool, true, false, ◌==◌, List, [], ◌∷◌, ◌++◌, length, length-append}
 use Rattle.std.proofs.lemmas.Bool.Decides.{nat_tests}
 use Rattle.nor_cell.specs.Bits.{unit_len, unit_bytes}
 use Rattle.nor_cell.specs.Chip.{ChipState, BufferData, BufferConfirm, Idle, NoFault, block_of, place}
-use Rattle.nor_cell.specs.Intel.{room, is_next, first_of, taken}
-use Rattle.nor_cell.specs.Machine.{takes, loaded, step_of, job_of, fault_of, machine_of, JobFits, LoadFits}
+use Rattle.nor_cell.specs.Intel.{room, first_of, taken}
+use Rattle.nor_cell.specs.Machine.{takes, loaded, step_of, job_of, fault_of, machine_of, JobFits}
 use Rattle.nor_cell.specs.declared.cells.Cells.{Cells}
 use Rattle.nor_cell.specs.declared.device.Device.{Device}
 use Rattle.nor_cell.specs.declared.device.Device.TheVariants.{X8, X16, X16Byte}

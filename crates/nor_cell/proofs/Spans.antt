@@ -1,10 +1,9 @@
 -- Blocks that follow each other.
-use Rattle.std.proofs.Common.{◌≡◌, ◌+◌, ◌<◌, ◌≤◌, ◌-◌, ℕ, zero, suc, refl, sym, subst, ap, arith, ◌∙◌, Bool, true, false, ◌&&◌, ◌==◌, nat_lt, List, [], ◌∷◌, length, get_or, cond}
+use Rattle.std.proofs.Common.{◌≡◌, ◌+◌, ◌<◌, ◌≤◌, ℕ, zero, suc, refl, arith, Bool, true, false, ◌&&◌, ◌==◌, List, [], ◌∷◌, length, get_or}
 use Rattle.std.specs.Prelude.{IsTrue}
-use Rattle.std.specs.List.{position_or_len}
 use Rattle.std.specs.List.Sorted.{IsNonDecreasingBy}
 use Rattle.std.proofs.lemmas.Bool.Decides.{nat_tests}
-use Rattle.nor_cell.specs.Chip.{span_end, block_at, has_blocks, blocks_end, no_span}
+use Rattle.nor_cell.specs.Chip.{span_end, has_blocks, blocks_end}
 use Rattle.nor_cell.specs.Ranges.{follow_to, are_blocks}
 use Rattle.nor_cell.specs.declared.device.Span.{Span}
 

@@ -1,5 +1,5 @@
 -- A chip and the cells that it is made of.
-use Rattle.std.specs.Prelude.{◌≡◌, false, List, length, replicate}
+use Rattle.std.specs.Prelude.{◌≡◌, false, length, replicate}
 use Rattle.nor_cell.specs.Chip.{ChipState, Part, Array, Rest, Idle, NotHeld, NoFault}
 use Rattle.nor_cell.specs.declared.device.Set.{Set}
 use Rattle.nor_cell.specs.declared.cells.Cells.{Cells}

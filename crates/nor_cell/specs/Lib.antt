@@ -1,5 +1,6 @@
 pub mod Amd
 pub mod Bits
+pub mod BufferCut
 pub mod Cells
 pub mod Chip
 pub mod Intel

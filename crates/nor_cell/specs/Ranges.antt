@@ -1,8 +1,8 @@
 -- The ranges of what a chip is made of.
-use Rattle.std.specs.Prelude.{◌≡◌, ◌≤◌, ℕ, Bool, true, false, List, [], ◌∷◌, ◌==◌, ◌+◌, ◌%◌, ◌^◌, ◌&&◌, ◌||◌, nat_lt, length, IsTrue}
+use Rattle.std.specs.Prelude.{◌≡◌, ◌≤◌, ℕ, Bool, true, List, [], ◌∷◌, ◌==◌, ◌+◌, ◌%◌, ◌^◌, ◌&&◌, nat_lt, length, IsTrue}
 use Rattle.std.specs.List.{list_any, list_all}
 use Rattle.nor_cell.specs.Bits.{unit_len, AreBytes}
-use Rattle.nor_cell.specs.Chip.{ChipState, has_blocks}
+use Rattle.nor_cell.specs.Chip.{ChipState}
 use Rattle.nor_cell.specs.declared.device.Device.{Device}
 use Rattle.nor_cell.specs.declared.device.Span.{Span}
 

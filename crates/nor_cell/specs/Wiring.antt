@@ -1,8 +1,7 @@
 -- How chips lie side by side on a bus word, and where a byte of the bank lies in them.
-use Rattle.std.specs.Prelude.{ℕ, ◌+◌, ◌*◌, ◌/◌, ◌%◌, Bool, true, false, ◌==◌, ◌&&◌, ◌||◌}
+use Rattle.std.specs.Prelude.{ℕ, ◌+◌, ◌*◌, ◌/◌, ◌%◌, Bool, ◌==◌, ◌&&◌, ◌||◌}
 use Rattle.nor_cell.specs.Bits.{unit_len}
 use Rattle.nor_cell.specs.declared.device.Device.{Device}
-use Rattle.nor_cell.specs.declared.device.Device.TheVariants.{X8, X16, X16Byte}
 
 -- one, two or four chips of eight wires fill a word of as many bytes, and one, two or four of sixteen wires one of twice as many
 abbrev pub is_wiring : ℕ → ℕ → Device → Bool

@@ -95,13 +95,7 @@ fn break_place(cells: &[u8], weak: &[u32], unit: usize, at: usize, bytes: &[u8])
 }
 
 /// The end of a program. It answers whether it broke off.
-pub(crate) fn program(
-    cells: &mut [u8],
-    weak: &[u32],
-    unit: usize,
-    at: usize,
-    bytes: &[u8],
-) -> bool
+pub(crate) fn program(cells: &mut [u8], weak: &[u32], unit: usize, at: usize, bytes: &[u8]) -> bool
     requires unit { 0 < unit }
     requires small { unit < 3 }
     requires fits { at + length bytes.now < 2 ^ 32 }

@@ -8,12 +8,18 @@
 //! - `Intel` and `Amd`: the machines of sets 0001 and 0002. A read is a relation of the old state,
 //!   the answer and the new state, as cells may end in several ways; a write is a function.
 //! - `Steps`: a chip of either set at a cycle. `Wiring`: where a byte of a bank lies in its chips.
+//! - `Machine`: the state that a simulated chip stands for. `Simulated`: what the simulated chips
+//!   leave where a chip may leave several things.
 //!
-//! The trait `Chip` is what a bus asks of a chip. It stands on nothing but the standard library.
+//! The trait `Chip` is what a bus asks of a chip. `Machine` is a simulated chip of either set as
+//! far as both are alike: cells, a job that runs, a suspended erase, a buffer load, and what a
+//! look, the suspend and resume codes, a cut and power-on make of them. Each set's own crate adds
+//! its commands and what its reads show. It stands on the standard library and `arrayvec`.
 #![tactic(auto)]
 
 mod bits;
 mod blocks;
+mod buffer_cut;
 mod cells;
 mod chip;
 mod device;
@@ -25,9 +31,12 @@ mod make;
 mod reads;
 mod state;
 mod table;
+#[cfg(test)]
+mod tests;
 
 pub use bits::{is_between, unit_len};
 pub use blocks::block;
+pub use buffer_cut::cut_in_a_load;
 pub use cells::{CellParts, Cells, NoMemory};
 pub use chip::Chip;
 pub use device::{Device, Set, Span, SuspendKind, Work};
@@ -35,9 +44,7 @@ pub use geometry::{BadGeometry, Geometry, make_geometry};
 pub use machine::Machine;
 pub use make::make_cells;
 pub use reads::register;
-pub use state::{
-    EraseTarget, Failure, HeldErase, NextStep, RunningJob, ShownMode, StatusFlags,
-};
+pub use state::{EraseTarget, Failure, HeldErase, NextStep, RunningJob, ShownMode, StatusFlags};
 pub use table::{
     buffer_units, can_program_suspended, can_suspend, has_locks, left_at_start, set_of,
     suspend_kind,

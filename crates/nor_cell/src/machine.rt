@@ -12,9 +12,7 @@ ghost use Rattle.nor_cell.specs.Steps.{Keeps};
 use crate::bits::unit_len;
 use crate::blocks::{block, covered};
 use crate::ends::{erase, program, set_bits, store_partly};
-use crate::state::{
-    EraseTarget, Failure, HeldErase, NextStep, RunningJob, ShownMode, StatusFlags,
-};
+use crate::state::{EraseTarget, Failure, HeldErase, NextStep, RunningJob, ShownMode, StatusFlags};
 use crate::table::{can_suspend, has_locks, left_at_start};
 use crate::{Cells, Set, Work};
 use arrayvec::ArrayVec;

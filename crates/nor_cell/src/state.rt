@@ -18,13 +18,17 @@ pub enum NextStep {
     Rest,
     ProgramNext,
     LockNext,
-    BufferCount { block: usize },
+    BufferCount {
+        block: usize,
+    },
     BufferData {
         block: usize,
         missing: u16,
         first: u32,
     },
-    BufferConfirm { first: u32 },
+    BufferConfirm {
+        first: u32,
+    },
     /// Of the Intel set.
     EraseNext,
     /// Of the AMD set, as the rest: the first unlock cycle has come, and the second.

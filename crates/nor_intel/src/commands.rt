@@ -10,14 +10,23 @@ use nor_cell::{EraseTarget, Machine, NextStep, ShownMode, StatusFlags, Work, has
 pub(crate) const SUSPEND: u8 = 0xB0;
 
 const READ_IDENTIFIERS: u8 = 0x90;
+
 const READ_QUERY: u8 = 0x98;
+
 const READ_STATUS: u8 = 0x70;
+
 const CLEAR_STATUS: u8 = 0x50;
+
 const PROGRAM: u8 = 0x40;
+
 const PROGRAM_OTHER: u8 = 0x10;
+
 const BUFFER_LOAD: u8 = 0xE8;
+
 const ERASE: u8 = 0x20;
+
 const LOCK_SETUP: u8 = 0x60;
+
 const LOCK: u8 = 0x01;
 // It confirms a buffer load and an erase, unlocks a block, and resumes an erase.
 const CONFIRM: u8 = 0xD0;
@@ -72,7 +81,6 @@ fn begin_erase(chip: &mut Machine, at: u32)
     }
     chip.mode = ShownMode::Status;
 }
-
 
 // At rest, by the code.
 fn command(chip: &mut Machine, at: u32, code: u8)

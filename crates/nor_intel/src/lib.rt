@@ -20,5 +20,7 @@
 mod chip;
 mod commands;
 mod shown;
+#[cfg(test)]
+mod tests;
 
 pub use chip::Intel;

@@ -8,9 +8,13 @@ use nor_cell::{Machine, ShownMode, StatusFlags, block, register, unit_len};
 
 // Bits of the status register.
 const READY: u8 = 0x80;
+
 const SUSPENDED: u8 = 0x40;
+
 const ERASE_ERROR: u8 = 0x20;
+
 const PROGRAM_ERROR: u8 = 0x10;
+
 const LOCKED: u8 = 0x02;
 
 // The register that tells in each block whether it is locked.
@@ -61,11 +65,7 @@ pub(crate) fn shown(chip: &Machine, at: u32) -> u16
     ensures fits { result < 256 ^ unit_len (chip.now).part.device }
 {
     if chip.runs() {
-        return if chip.is_held() {
-            SUSPENDED as u16
-        } else {
-            0
-        };
+        return if chip.is_held() { SUSPENDED as u16 } else { 0 };
     }
     match chip.mode {
         ShownMode::Array => chip.array_unit(at),

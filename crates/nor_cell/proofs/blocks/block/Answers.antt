@@ -1,4 +1,4 @@
-use Rattle.std.proofs.Common.{◌≡◌, ◌<◌, ◌≤◌, arith, sym, subst, length}
+use Rattle.std.proofs.Common.{◌<◌, ◌≤◌, arith, sym, subst, length}
 use Rattle.nor_cell.specs.Chip.{span_end}
 use Rattle.nor_cell.specs.declared.device.Span.{Span}
 use Rattle.nor_cell.proofs.Spans.{block_inside}

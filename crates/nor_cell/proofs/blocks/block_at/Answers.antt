@@ -1,4 +1,4 @@
-use Rattle.std.proofs.Common.{rules, of_calls, ◌≡◌, ◌+◌, ◌≤◌, ◌<◌, ℕ, List, sym, subst, arith, true, false, nat_lt, nat_le, length, get_or, leb}
+use Rattle.std.proofs.Common.{rules, of_calls, ◌≡◌, ◌≤◌, ◌<◌, ℕ, List, sym, subst, arith, true, false, nat_lt, length, get_or, leb}
 use Rattle.std.specs.List.Sorted.{IsPartitionPoint}
 use Rattle.std.proofs.lemmas.Bool.Decides.{nat_tests}
 use Rattle.std.proofs.lemmas.Fn.{always_returns_same}

@@ -1,5 +1,4 @@
-use Rattle.std.proofs.Common.{rules, ◌≡◌, ◌<◌, arith, slice_index, false}
-use Rattle.nor_cell.specs.Look.{is_weak}
+use Rattle.std.proofs.Common.{rules, arith}
 use Rattle.nor_cell.proofs.Changing.{erased_by}
 use Rattle.nor_cell.proofs.ends.erase.Goals as goal
 use Rattle.nor_cell.proofs.ends.erase.Goals.{then-broke, else-broke}

@@ -1,7 +1,4 @@
-use Rattle.std.proofs.Common.{◌≡◌, ◌<◌, ◌≤◌, arith, rules, slice_index, bit_or}
-use Rattle.std.proofs.lemmas.Bool.Decides.{nat_tests}
-use Rattle.nor_cell.specs.Bits.{ChangesWithin}
-use Rattle.nor_cell.specs.Chip.{span_end}
+use Rattle.std.proofs.Common.{rules}
 use Rattle.nor_cell.proofs.Cutting.{changed_inside, kept_outside}
 use Rattle.nor_cell.proofs.ends.set_bits.Goals as goal
 

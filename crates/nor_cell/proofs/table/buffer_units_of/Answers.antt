@@ -1,4 +1,4 @@
-use Rattle.std.proofs.Common.{◌≡◌, ◌+◌, ◌<◌, ◌≤◌, ◌^◌, ◌≢◌, ◌-◌, ◌*◌, ◌%◌, min, ℕ, zero, suc, refl, sym, subst, ap, arith, ◌∙◌}
+use Rattle.std.proofs.Common.{◌≡◌, ◌<◌, ◌^◌, ◌≢◌, ◌-◌, ◌*◌, ◌%◌, min, ℕ, zero, suc, refl, ap, arith, ◌∙◌}
 use Rattle.nor_cell.specs.Table.{buffer_units_of, at_least_two}
 use Rattle.nor_cell.specs.declared.device.Device.TheVariants.{X16}
 use Rattle.nor_cell.proofs.table.buffer_units_of.Goals as goal

@@ -1,4 +1,4 @@
-use Rattle.std.proofs.Common.{◌≡◌, ◌+◌, ◌*◌, ◌/◌, ◌==◌, ℕ, sym, subst, ap, arith, ◌∙◌, length, false}
+use Rattle.std.proofs.Common.{◌≡◌, ◌+◌, ◌*◌, ◌/◌, ◌==◌, sym, ap, ◌∙◌, length, false}
 use Rattle.nor_cell.specs.Bits.{unit_len}
 use Rattle.nor_cell.specs.Chip.{ChipState, BufferData, block_of, place}
 use Rattle.nor_cell.specs.Intel.{room}
