@@ -64,13 +64,3 @@ refusal_is file (Trailing at) is h = h
 refusal_is file (SizeDiffers lane) is h = h
 refusal_is file NotBuilt is h = absurd is
 refusal_is file NoMemory is h = absurd is
-
--- and so is want of memory
-pub cause_is : (file : List ℕ) (e : ImageError) → (e ≢ NoMemory → (image_refusal file ≡ Some e) × IsRefusal e) → IsCause file e
-cause_is file BadMagic h = (h (λ same. cc)).0
-cause_is file (BadHeader at) h = (h (λ same. cc)).0
-cause_is file (Truncated at) h = (h (λ same. cc)).0
-cause_is file (Trailing at) h = (h (λ same. cc)).0
-cause_is file (SizeDiffers lane) h = (h (λ same. cc)).0
-cause_is file NotBuilt h = absurd (h (λ same. cc)).1
-cause_is file NoMemory h = tt

@@ -76,6 +76,7 @@ in_fields : (file : List ℕ) (n : ℕ) (e : ImageError) → first_refusal file 
 in_fields file zero e h = h
 in_fields file (suc n) e h = stops file (fields_before file n) (record_fields file n (record_place file n)) e (in_fields file n e h)
 
+-- and so of the file
 pub header_stops : (file : List ℕ) (e : ImageError) → first_refusal file (header_fields file) ≡ Some e → image_refusal file ≡ Some e
 unfolding image_refusal
 header_stops file e h = or_some _ _ e (in_fields file (lanes_of_file file) e h)
@@ -88,11 +89,13 @@ lane_stops file n at lanes e so below refused =
     or_some _ _ e (stays file (fields_before file) (λ k. record_fields file k (record_place file k)) (λ k. refl) e n (lanes_of_file file) below so.none
     (subst (λ (p : ℕ). first_refusal file (record_fields file n p) ≡ Some e) so.at_is refused))
 
+-- the file goes on behind a place
 goes_further : (file : List ℕ) (end : ℕ) → end < length file → trailing file end ≡ Some (Trailing end)
 goes_further file end h =
     let longer : nat_lt end (length file) ≡ true = grind (arith, nat_tests) in
     rw longer refl
 
+-- the file ends there
 ends : (file : List ℕ) (end : ℕ) → length file ≤ end → trailing file end ≡ None
 ends file end h =
     let not_longer : nat_lt end (length file) ≡ false = grind (arith, nat_tests) in
@@ -116,6 +119,7 @@ nothing_stops file n at lanes so all whole =
     or_none _ _ (subst (λ (k : ℕ). first_refusal file (fields_before file k) ≡ None) all so.none)
     ∙ subst (λ (p : ℕ). trailing file p ≡ None) last (ends file at whole)
 
+-- the chips of no record
 no_chips : (file : List ℕ) (set : Set) → AreChips file set 0 []
 no_chips file set = record {
   count = refl;

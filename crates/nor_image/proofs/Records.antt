@@ -12,6 +12,7 @@ use Rattle.nor_image.specs.Image.{Field, first_refusal, refusal_of, record_field
 use Rattle.nor_image.specs.declared.error.ImageError.{ImageError}
 use Rattle.nor_image.proofs.Refusals.{or_none, or_some, first_refusal-append}
 
+-- nothing follows
 or_nil : (p : Option ImageError) → option_or p None ≡ p
 or_nil None = refl
 or_nil (Some e) = refl

@@ -22,6 +22,7 @@ pub record AreWeak (file : List ℕ) (device : Device) (at size k least : ℕ) (
   pub ascending : IsTrue (is_ascending_below least places)
   pub whole : IsTrue (begin_units device places)
 
+-- what the tests of numbers say
 is_below : (a b : ℕ) → a < b → nat_lt a b ≡ true
 is_below a b h = grind (arith, nat_tests)
 
