@@ -1,5 +1,5 @@
 -- From the chips of all records to the bank of a file.
-use Rattle.std.proofs.Common.{◌≡◌, ◌≢◌, ◌<◌, ℕ, zero, suc, List, length, map, Bool, true, IsTrue, refl, sym, ap, subst, ◌∙◌, arith, get_or, Option, Some, None}
+use Rattle.std.proofs.Common.{◌≡◌, ◌≢◌, ◌<◌, ℕ, zero, suc, List, length, IsTrue, refl, sym, ap, subst, ◌∙◌, arith, get_or, Some, None}
 use Rattle.std.proofs.lemmas.List.{length-map}
 use Rattle.nor_cell.specs.Cells.{chip_of}
 use Rattle.nor_cell.specs.Chip.{ChipState}
@@ -8,7 +8,7 @@ use Rattle.nor_cell.specs.Wiring.{is_wiring}
 use Rattle.nor_cell.specs.declared.cells.Cells.{Cells}
 use Rattle.nor_cell.specs.declared.device.Device.{Device}
 use Rattle.nor_cell.specs.declared.device.Set.TheVariants.{Intel}
-use Rattle.nor_bus.specs.Bus.{IsBank, chip_at}
+use Rattle.nor_bus.specs.Bus.{IsBank}
 use Rattle.nor_bus.proofs.Mapped.{state_there}
 use Rattle.nor_image.specs.Image.{image_refusal, width_of, device_of, lanes_of_file, machine_of, table_in, IsImageOf, IsCause}
 use Rattle.nor_image.specs.Reading.{IsRefusal, AreChips, AreLanes, chips_of}
@@ -64,13 +64,3 @@ refusal_is file (Trailing at) is h = h
 refusal_is file (SizeDiffers lane) is h = h
 refusal_is file NotBuilt is h = absurd is
 refusal_is file NoMemory is h = absurd is
-
--- and so is want of memory
-pub cause_is : (file : List ℕ) (e : ImageError) → (e ≢ NoMemory → (image_refusal file ≡ Some e) × IsRefusal e) → IsCause file e
-cause_is file BadMagic h = (h (λ same. cc)).0
-cause_is file (BadHeader at) h = (h (λ same. cc)).0
-cause_is file (Truncated at) h = (h (λ same. cc)).0
-cause_is file (Trailing at) h = (h (λ same. cc)).0
-cause_is file (SizeDiffers lane) h = (h (λ same. cc)).0
-cause_is file NotBuilt h = absurd (h (λ same. cc)).1
-cause_is file NoMemory h = tt

@@ -1,5 +1,5 @@
 -- Records that are read one after another.
-use Rattle.std.proofs.Common.{◌≡◌, ◌≢◌, ◌<◌, ◌≤◌, ◌⊎◌, inl, inr, ◌+◌, ◌*◌, ℕ, zero, suc, List, [], ◌∷◌, ◌++◌, length, map, Bool, true, false, IsTrue, nat_lt, refl, sym, ap, subst, ◌∙◌, arith, add-one, get_or, Option, Some, None}
+use Rattle.std.proofs.Common.{◌≡◌, ◌≢◌, ◌<◌, ◌≤◌, ◌⊎◌, inl, inr, ◌+◌, ◌*◌, ℕ, zero, suc, List, [], ◌∷◌, ◌++◌, length, map, true, false, nat_lt, refl, sym, ap, subst, ◌∙◌, arith, add-one, Some, None}
 use Rattle.std.proofs.Math.ListN.{get_or-append}
 use Rattle.std.proofs.Math.Seq.{get_or-append_seam}
 use Rattle.std.proofs.lemmas.Bool.{cases_eq}
@@ -12,7 +12,7 @@ use Rattle.nor_cell.specs.Power.{powered}
 use Rattle.nor_cell.specs.declared.cells.Cells.{Cells}
 use Rattle.nor_cell.specs.declared.device.Set.{Set}
 use Rattle.nor_bus.specs.Bus.{chip_at, no_chip}
-use Rattle.nor_image.specs.Image.{first_refusal, record_fields, fields_before, header_fields, record_place, record_end, lanes_of_file, device_of, weak_count, size_in, chip_in, trailing, image_refusal}
+use Rattle.nor_image.specs.Image.{first_refusal, record_fields, fields_before, header_fields, record_place, record_end, lanes_of_file, device_of, size_in, chip_in, trailing, image_refusal}
 use Rattle.nor_image.specs.Reading.{AreStored, AreChips, chips_of}
 use Rattle.nor_image.specs.declared.error.ImageError.{ImageError}
 use Rattle.nor_image.specs.declared.error.ImageError.TheVariants.{Trailing}
@@ -76,6 +76,7 @@ in_fields : (file : List ℕ) (n : ℕ) (e : ImageError) → first_refusal file 
 in_fields file zero e h = h
 in_fields file (suc n) e h = stops file (fields_before file n) (record_fields file n (record_place file n)) e (in_fields file n e h)
 
+-- and so of the file
 pub header_stops : (file : List ℕ) (e : ImageError) → first_refusal file (header_fields file) ≡ Some e → image_refusal file ≡ Some e
 unfolding image_refusal
 header_stops file e h = or_some _ _ e (in_fields file (lanes_of_file file) e h)
@@ -88,11 +89,13 @@ lane_stops file n at lanes e so below refused =
     or_some _ _ e (stays file (fields_before file) (λ k. record_fields file k (record_place file k)) (λ k. refl) e n (lanes_of_file file) below so.none
     (subst (λ (p : ℕ). first_refusal file (record_fields file n p) ≡ Some e) so.at_is refused))
 
+-- the file goes on behind a place
 goes_further : (file : List ℕ) (end : ℕ) → end < length file → trailing file end ≡ Some (Trailing end)
 goes_further file end h =
     let longer : nat_lt end (length file) ≡ true = grind (arith, nat_tests) in
     rw longer refl
 
+-- the file ends there
 ends : (file : List ℕ) (end : ℕ) → length file ≤ end → trailing file end ≡ None
 ends file end h =
     let not_longer : nat_lt end (length file) ≡ false = grind (arith, nat_tests) in
@@ -116,6 +119,7 @@ nothing_stops file n at lanes so all whole =
     or_none _ _ (subst (λ (k : ℕ). first_refusal file (fields_before file k) ≡ None) all so.none)
     ∙ subst (λ (p : ℕ). trailing file p ≡ None) last (ends file at whole)
 
+-- the chips of no record
 no_chips : (file : List ℕ) (set : Set) → AreChips file set 0 []
 no_chips file set = record {
   count = refl;

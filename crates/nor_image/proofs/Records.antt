@@ -1,18 +1,18 @@
 -- What the fields of a record refuse, and the chip that it stores.
-use Rattle.std.proofs.Common.{◌≡◌, ◌+◌, ◌*◌, ◌==◌, ℕ, zero, suc, List, [], ◌∷◌, ◌++◌, length, replicate, slice_index, Bool, false, refl, sym, ap, subst, ◌∙◌, Option, Some, None}
+use Rattle.std.proofs.Common.{◌≡◌, ◌+◌, ◌==◌, ℕ, List, [], ◌∷◌, ◌++◌, slice_index, refl, ap, ◌∙◌, Option, Some, None}
 use Rattle.std.specs.Option.{option_or}
 use Rattle.nor_cell.specs.Cells.{chip_of}
 use Rattle.nor_cell.specs.Power.{powered}
 use Rattle.nor_cell.specs.declared.cells.Cells.{Cells}
 use Rattle.nor_cell.specs.declared.device.Device.{Device}
 use Rattle.nor_cell.specs.declared.device.Set.{Set}
-use Rattle.nor_cell.specs.declared.device.Span.{Span}
 use Rattle.nor_bus.specs.Bus.{no_chip}
 use Rattle.nor_io.specs.Fields.{u32_at}
 use Rattle.nor_image.specs.Image.{Field, first_refusal, refusal_of, record_fields, number_fields, table_field, size_field, weak_fields, cells_field, weak_count, table_in, weak_in, bytes_at, cells_at, size_in, chip_in}
 use Rattle.nor_image.specs.declared.error.ImageError.{ImageError}
 use Rattle.nor_image.proofs.Refusals.{or_none, or_some, first_refusal-append}
 
+-- nothing follows
 or_nil : (p : Option ImageError) → option_or p None ≡ p
 or_nil None = refl
 or_nil (Some e) = refl

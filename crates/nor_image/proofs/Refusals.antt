@@ -13,6 +13,7 @@ or_none p q none = subst (λ (o : Option ImageError). option_or o q ≡ q) (sym 
 pub or_some : (p q : Option ImageError) (e : ImageError) → p ≡ Some e → option_or p q ≡ Some e
 or_some p q e some = subst (λ (o : Option ImageError). option_or o q ≡ Some e) (sym some) refl
 
+-- the first of three
 or_assoc : (p q r : Option ImageError) → option_or p (option_or q r) ≡ option_or (option_or p q) r
 or_assoc None q r = refl
 or_assoc (Some e) q r = refl
@@ -31,6 +32,7 @@ goes_on file xs ys none = first_refusal-append file xs ys ∙ or_none (first_ref
 pub stops : (file : List ℕ) (xs ys : List Field) (e : ImageError) → first_refusal file xs ≡ Some e → first_refusal file (xs ++ ys) ≡ Some e
 stops file xs ys e some = first_refusal-append file xs ys ∙ or_some (first_refusal file xs) (first_refusal file ys) e some
 
+-- one step of `stays`: step n is the one that is refused, or an earlier one was
 stays_at : (file : List ℕ) (F G : ℕ → List Field) (e : ImageError) (k n : ℕ) → F (suc n) ≡ F n ++ G n → first_refusal file (F k) ≡ None → first_refusal file (G k) ≡ Some e
     → (k ≢ n → first_refusal file (F n) ≡ Some e) → (k ≡ n) ⊎ (k ≢ n) → first_refusal file (F (suc n)) ≡ Some e
 stays_at file F G e k n step none some before (inl is) =

@@ -1,5 +1,5 @@
 -- Weak places that are read one after another.
-use Rattle.std.proofs.Common.{◌≡◌, ◌<◌, ◌≤◌, ◌+◌, ◌%◌, ℕ, zero, suc, List, [], ◌∷◌, ◌++◌, length, Bool, true, false, IsTrue, ◌&&◌, nat_lt, nat_le, ◌==◌, refl, sym, ap, subst, ◌∙◌, arith, add-one, Option, None, Some}
+use Rattle.std.proofs.Common.{◌≡◌, ◌<◌, ◌≤◌, ◌+◌, ◌%◌, ℕ, suc, List, [], ◌∷◌, ◌++◌, length, true, IsTrue, ◌&&◌, nat_lt, nat_le, ◌==◌, refl, sym, ap, subst, ◌∙◌, arith, add-one, None, Some}
 use Rattle.std.proofs.lemmas.List.{length-append}
 use Rattle.std.proofs.lemmas.List.Folds.{list_all-append}
 use Rattle.std.proofs.lemmas.Bool.Decides.{nat_tests}
@@ -22,6 +22,7 @@ pub record AreWeak (file : List ℕ) (device : Device) (at size k least : ℕ) (
   pub ascending : IsTrue (is_ascending_below least places)
   pub whole : IsTrue (begin_units device places)
 
+-- what the tests of numbers say
 is_below : (a b : ℕ) → a < b → nat_lt a b ≡ true
 is_below a b h = grind (arith, nat_tests)
 

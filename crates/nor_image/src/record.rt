@@ -16,10 +16,12 @@ use std::alloc::Global;
 /// Where the record of lane 0 begins.
 pub const FIRST_RECORD: usize = 12;
 
-// Where a record has its table, its chip's size and its weak places, within itself.
+// Where a record has its query table.
 const TABLE: usize = 20;
 
+// Where a record has its chip's size.
 const SIZE: usize = 532;
+
 /// How long a record is without its weak places and cells.
 pub const FIXED_PART: usize = 536;
 

@@ -6,7 +6,7 @@ use Rattle.nor_cell.specs.declared.device.Device.{Device}
 use Rattle.nor_cell.specs.declared.device.Set.TheVariants.{Intel, Amd}
 use Rattle.nor_bus.specs.Bus.{IsBank, chip_at}
 use Rattle.nor_image.specs.Image.{IsCause, IsImageOf, machine_of, lanes_of_file, device_of, width_of}
-use Rattle.nor_image.specs.Reading.{AreChips, chips_of}
+use Rattle.nor_image.specs.Reading.{chips_of}
 use Rattle.nor_image.proofs.Images.{some_lanes, lane_0, first_table, is_bank, is_image, refusal_is}
 use Rattle.nor_image.proofs.Lanes.{header_stops}
 use Rattle.nor_image.proofs.read.read_image.Goals as goal

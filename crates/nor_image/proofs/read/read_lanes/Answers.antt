@@ -1,4 +1,4 @@
-use Rattle.std.proofs.Common.{rules, ◌≡◌, ◌≢◌, ◌<◌, ◌≤◌, ◌+◌, ◌*◌, ℕ, length, arith, Option, Some, None, subst, sym, ap, ◌∙◌}
+use Rattle.std.proofs.Common.{rules, ◌≡◌, ◌≢◌, ◌<◌, ◌≤◌, ◌+◌, ◌*◌, ℕ, length, arith, Some, subst}
 use Rattle.nor_cell.specs.declared.device.Device.{Device}
 use Rattle.nor_image.specs.Image.{image_refusal, lanes_of_file}
 use Rattle.nor_image.specs.Reading.{IsRefusal, AreStored, AreChips, chips_of}

@@ -1,7 +1,7 @@
-use Rattle.std.proofs.Common.{rules, ◌≡◌, ◌≢◌, ◌+◌, ◌*◌, ◌≤◌, ℕ, List, [], length, replicate, arith, Bool, Option, Some, None, false, subst, sym, ap, ◌∙◌}
+use Rattle.std.proofs.Common.{rules, ◌≡◌, ◌≢◌, ◌+◌, ◌*◌, ℕ, List, length, replicate, arith, Some, None, false, subst, sym, ap, ◌∙◌}
 use Rattle.nor_cell.specs.Bits.{AreBytes}
 use Rattle.nor_cell.specs.declared.device.Span.{Span}
-use Rattle.nor_image.specs.Image.{record_fields, weak_fields, weak_in, first_refusal, weak_count, size_in, cells_at, bytes_at, record_end}
+use Rattle.nor_image.specs.Image.{record_fields, weak_fields, weak_in, first_refusal, weak_count, size_in, cells_at, bytes_at}
 use Rattle.nor_image.specs.Reading.{IsRefusal}
 use Rattle.nor_image.specs.declared.error.ImageError.TheVariants.{NoMemory}
 use Rattle.nor_image.proofs.Records.{IsMade, chip_made, in_numbers, in_table, in_size, in_weak, in_cells}

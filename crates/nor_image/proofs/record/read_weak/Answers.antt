@@ -1,7 +1,6 @@
-use Rattle.std.proofs.Common.{rules, ◌≡◌, ◌<◌, ◌≤◌, ◌+◌, ℕ, List, arith, IsTrue, Option, Some, None, subst, ap}
-use Rattle.nor_cell.specs.Ranges.{is_ascending_below}
+use Rattle.std.proofs.Common.{rules, ◌≡◌, ℕ, arith, Some, None, subst}
 use Rattle.nor_image.specs.Image.{weak_fields, first_refusal, weak_in}
-use Rattle.nor_image.proofs.WeakPlaces.{AreWeak, weak_more, weak_stops, ascending_below}
+use Rattle.nor_image.proofs.WeakPlaces.{weak_more, weak_stops, ascending_below}
 use Rattle.nor_image.proofs.record.read_weak.Goals as goal
 
 pub returns-in_err-place-clause-read : goal.returns-in_err-place-clause-read

@@ -1,4 +1,4 @@
-use Rattle.std.proofs.Common.{◌≡◌, ◌∙◌, ℕ}
+use Rattle.std.proofs.Common.{◌∙◌}
 use Rattle.nor_image.proofs.Sizes.{list_any-flip, chip_sizes}
 use Rattle.nor_image.proofs.size.is_chip_size.Goals as goal
 
