@@ -93,7 +93,7 @@ one_byte width device u a old word bank shows small each some is =
     let c = a % width / d in
     let k = a % width % d in
     let here : slice_index word (c * d + k) ≡ slice_index (lane old c).cells (u * d + k) =
-        same_bytes device word (lane old c).cells c u k small (shows c lies.lane).bytes lies.in_unit (each c lies.lane) in
+    same_bytes device word (lane old c).cells c u k small (shows c lies.lane).bytes lies.in_unit (each c lies.lane) in
     let lane_is : c ≡ a / d % lanes = sym (lane_of_byte lanes d a first (some_bytes device) ∙ ap (λ (n : ℕ). a % n / d) fills) in
     let place_is : u * d + k ≡ a / (lanes * d) * d + a % d = ap (λ (n : ℕ). n * d + k) (sym is) ∙ (ap (λ (n : ℕ). a / n * d + a % n % d) (sym fills) ∙ sym (place_of_byte lanes d a first (some_bytes device))) in
     ap (λ (n : ℕ). slice_index word n) (sym lies.same)
@@ -106,8 +106,8 @@ word_read width device u old new word bank shows some count small reads = record
   same = same_chips old.lanes new.lanes count (λ c below. (one_lane u _ (lane old c) (lane new c) (shows c below) (reads c below)).0);
   bytes = λ a is. one_byte width device u a old word bank shows small
       (λ c below.
-          let answer : lane_of (wide (lane old c)) word c ≡ unit_at (lane old c).part.device (lane old c).cells u = (one_lane u _ (lane old c) (lane new c) (shows c below) (reads c below)).1 in
-          subst (λ (x : Device). lane_of (unit_len x) word c ≡ unit_at x (lane old c).cells u) (bank.devices c below) answer)
+      let answer : lane_of (wide (lane old c)) word c ≡ unit_at (lane old c).part.device (lane old c).cells u = (one_lane u _ (lane old c) (lane new c) (shows c below) (reads c below)).1 in
+      subst (λ (x : Device). lane_of (unit_len x) word c ≡ unit_at x (lane old c).cells u) (bank.devices c below) answer)
       some is;
 }
 
@@ -171,10 +171,13 @@ read_none width u at bus into some is = record {
   size = refl;
   went = let e : u - u ≡ 0 = omega arith in subst (λ (n : ℕ). Went n n bus bus) (sym e) (went_none bus);
   units = refl;
-  reads = λ device can. (refl, λ i below before.
-      let start : at / width * width ≤ at = let whole = div-add-mod' at width in omega (arith, whole) in
-      let same : u * width ≡ at / width * width = ap (λ (n : ℕ). n * width) is in
-      absurd (omega arith));
+  reads = λ device can. (
+    refl,
+    λ i below before.
+        let start : at / width * width ≤ at = let whole = div-add-mod' at width in omega (arith, whole) in
+        let same : u * width ≡ at / width * width = ap (λ (n : ℕ). n * width) is in
+        absurd (omega arith),
+  );
 }
 
 -- one word more
@@ -202,14 +205,14 @@ read_more width u at first old now new word before mid into some small filled is
           let shows : AllLanes IsReadable now = subst (λ (ls : List ChipState). (c : ℕ) → c < length ls → IsReadable (chip_at ls c)) (sym so_far.0) can.chips in
           let read = word_read width device u now new word bank shows some went.kept.count small (reads below) in
           let byte : (i : ℕ) → i < length into → at + i < u * width + width → (at + i < u * width) ⊎ (u * width ≤ at + i) → slice_index into i ≡ bank_byte device old.lanes (at + i) =
-              λ i less next side. elim side [
-                inl low ↦ outside i (inl low) ∙ so_far.1 i (omega arith) low
-              | inr high ↦
-                  let here = in_word width u (at + i) high next in
-                  inside i (omega arith) high next
-                  ∙ (ap (λ (n : ℕ). slice_index word n) (sym here.byte)
-                  ∙ (read.bytes (at + i) here.word ∙ ap (λ (ls : List ChipState). bank_byte device ls (at + i)) so_far.0))
-              ] in
+          λ i less next side. elim side [
+            | inl low ↦ outside i (inl low) ∙ so_far.1 i (omega arith) low
+            | inr high ↦
+                let here = in_word width u (at + i) high next in
+                inside i (omega arith) high next
+                ∙ (ap (λ (n : ℕ). slice_index word n) (sym here.byte)
+                ∙ (read.bytes (at + i) here.word ∙ ap (λ (ls : List ChipState). bank_byte device ls (at + i)) so_far.0))
+          ] in
           (read.same ∙ so_far.0, λ i less next. byte i less (let e : (u + 1) * width ≡ u * width + width = omega arith in omega arith) (cases_lt (at + i) (u * width)));
     }
 

@@ -76,7 +76,7 @@ lanes_two f (s ∷ chips) (a ∷ b ∷ word) devices size small each =
     let high = high_byte a b (f s) (small 0) (small 1) here in
     let head : unit_bytes s.part.device (f s) ≡ a ∷ b ∷ [] = ap (λ (d : Device). unit_bytes d (f s)) (devices 0 (omega arith)) ∙ (ap (λ (n : ℕ). n ∷ f s / 256 % 256 ∷ []) low ∙ ap (λ (n : ℕ). a ∷ n ∷ []) high) in
     let tail : word ≡ side_by_side f chips = lanes_two f chips word (λ c below. devices (suc c) (omega arith)) (omega arith) (λ p. small (suc (suc p)))
-        (λ c below. sym (later_lane a b word c) ∙ each (suc c) (omega arith)) in
+    (λ c below. sym (later_lane a b word c) ∙ each (suc c) (omega arith)) in
     ap (λ (l : List ℕ). a ∷ b ∷ l) tail ∙ ap (λ (l : List ℕ). l ++ side_by_side f chips) (sym head)
 
 -- A word in whose lanes the chips of one device say their numbers is that word.

@@ -50,9 +50,9 @@ query_is width bus new u word wired shows size small reads =
     let bank = wired.bank in
     word_is device (λ s. query_at s.part u) bus.lanes word (λ c below. bank.devices c below) (size ∙ sym (fills_word width device bus.lanes bank)) small
     (λ c below.
-        let is = shows c below in
-        let answer : lane_of (wide (lane bus c)) word c ≡ query_at (lane bus c).part u = (reads_query (lane bus c) (lane new c) u _ is.mode is.job is.fault (reads c below)).1 in
-        subst (λ (d : ℕ). lane_of d word c ≡ query_at (lane bus c).part u) (ap unit_len (bank.devices c below)) answer)
+    let is = shows c below in
+    let answer : lane_of (wide (lane bus c)) word c ≡ query_at (lane bus c).part u = (reads_query (lane bus c) (lane new c) u _ is.mode is.job is.fault (reads c below)).1 in
+    subst (λ (d : ℕ). lane_of d word c ≡ query_at (lane bus c).part u) (ap unit_len (bank.devices c below)) answer)
 
 -- a fact after an error
 pub on_err : {T E : Type 0} (r : Result T E) (P : Type 0) → P → OnErr r P

@@ -10,12 +10,15 @@ use nor_word::BusWord;
 
 /// The codes that lead chips of sets 0002 and 0001 to their arrays.
 const RESET_AMD: u8 = 0xF0;
+
 const RESET_INTEL: u8 = 0xFF;
 
 /// The code that leads a chip to its query table, and the two bus addresses at which it listens:
 /// that of a sixteen bit chip in byte mode is twice the other.
 const QUERY: u8 = 0x98;
+
 const QUERY_AT: u32 = 0x55;
+
 const QUERY_AT_IN_BYTE_MODE: u32 = 0xAA;
 
 /// Leads every resting chip to its array. Two cycles.

@@ -37,7 +37,12 @@ fn query_address(device: Device, n: u32) -> u32
 }
 
 /// Whether every lane of a wiring reads a letter at a word of the query table. One cycle.
-fn shows_letter<W: BusWord, B: Bus<W>>(bus: &mut B, g: Geometry, n: u32, letter: u8) -> Result<bool, Off>
+fn shows_letter<W: BusWord, B: Bus<W>>(
+    bus: &mut B,
+    g: Geometry,
+    n: u32,
+    letter: u8,
+) -> Result<bool, Off>
     requires wiring { IsTrue (is_wiring W.WIDTH g.lanes g.device) }
     requires low { n < 512 }
     ensures went { OnOk result (Went 1 1 (B.state bus.old) (B.state bus.new)) }

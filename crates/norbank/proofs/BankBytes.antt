@@ -30,7 +30,7 @@ bytes_of device chips at (b ∷ bytes) are =
     let here : at + 0 ≡ at = omega arith in
     let head : b ≡ bank_byte device chips at = are 0 (omega arith) ∙ ap (λ (n : ℕ). bank_byte device chips n) here in
     let tail : bytes ≡ bank_bytes device chips (at + 1) (length bytes) =
-        bytes_of device chips (at + 1) bytes (λ i below. are (suc i) (omega arith) ∙ (let e : at + suc i ≡ at + 1 + i = omega arith in ap (λ (n : ℕ). bank_byte device chips n) e)) in
+    bytes_of device chips (at + 1) bytes (λ i below. are (suc i) (omega arith) ∙ (let e : at + suc i ≡ at + 1 + i = omega arith in ap (λ (n : ℕ). bank_byte device chips n) e)) in
     ap (λ (n : ℕ). n ∷ bytes) head ∙ ap (λ (l : List ℕ). bank_byte device chips at ∷ l) tail
 
 -- one range after another

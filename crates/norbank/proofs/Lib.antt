@@ -1,4 +1,5 @@
 pub mod BankBytes
+pub mod FileEnds
 pub mod Piecewise
 pub mod Putting
 pub mod WordLemmas

@@ -35,7 +35,7 @@ piece_after : (device : Device) (width at done count : ℕ) (old now : BusState)
 piece_after device width at done count old now a b c f g h r same bank so_far le puts =
     let bank_now : IsBank width device now.lanes = subst (λ (ls : List ChipState). IsBank width device ls) (sym same) bank in
     let here : PutsText (encode_lower (bank_bytes device old.lanes (at + done) count)) (record { before = b; after = c; faults_before = g; faults_after = h }) r =
-        subst (λ (ls : List ChipState). PutsText (encode_lower (bank_bytes device ls (at + done) count)) (record { before = b; after = c; faults_before = g; faults_after = h }) r) same (puts device bank_now) in
+    subst (λ (ls : List ChipState). PutsText (encode_lower (bank_bytes device ls (at + done) count)) (record { before = b; after = c; faults_before = g; faults_after = h }) r) same (puts device bank_now) in
     subst (λ (t : List ℕ). PutsText t (record { before = a; after = c; faults_before = f; faults_after = h }) r) (sym (encode-add device old.lanes at done count))
     (puts_then (encode_lower (bank_bytes device old.lanes at done)) (encode_lower (bank_bytes device old.lanes (at + done) count)) a b c f g h r so_far le here)
 
@@ -60,6 +60,6 @@ printed_stop width at len done count old now a b c f g h e so within puts device
     let front = piece_after device width at done count old now a b c f g h (Err e) so.same bank (so.text device bank) so.later puts in
     let whole : done + count + (len - (done + count)) ≡ len = omega arith in
     let all : encode_lower (bank_bytes device old.lanes at len) ≡ encode_lower (bank_bytes device old.lanes at (done + count)) ++ encode_lower (bank_bytes device old.lanes (at + (done + count)) (len - (done + count))) =
-        ap (λ (n : ℕ). encode_lower (bank_bytes device old.lanes at n)) (sym whole) ∙ encode-add device old.lanes at (done + count) (len - (done + count)) in
+    ap (λ (n : ℕ). encode_lower (bank_bytes device old.lanes at n)) (sym whole) ∙ encode-add device old.lanes at (done + count) (len - (done + count)) in
     subst (λ (t : List ℕ). PutsText t (record { before = a; after = c; faults_before = f; faults_after = h }) (Err e)) (sym all)
     (puts_stop (encode_lower (bank_bytes device old.lanes at (done + count))) (encode_lower (bank_bytes device old.lanes (at + (done + count)) (len - (done + count)))) a c f h e front)

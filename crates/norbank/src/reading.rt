@@ -83,16 +83,31 @@ fn say_refused<K: Sink>(error: ImageError, out: &mut K) -> Status
     match error {
         ImageError::BadMagic => say(3, b"image: bad magic\n", out),
         ImageError::BadHeader { at } => {
-            say_line(3, b"image: bad header at ", number.format(at).as_bytes(), out)
+            say_line(
+                3,
+                b"image: bad header at ",
+                number.format(at).as_bytes(),
+                out,
+            )
         }
         ImageError::Truncated { at } => {
-            say_line(3, b"image: truncated at ", number.format(at).as_bytes(), out)
+            say_line(
+                3,
+                b"image: truncated at ",
+                number.format(at).as_bytes(),
+                out,
+            )
         }
         ImageError::Trailing { at } => {
             say_line(3, b"image: trailing at ", number.format(at).as_bytes(), out)
         }
         ImageError::SizeDiffers { lane } => {
-            say_line(3, b"image: size differs in lane ", number.format(lane).as_bytes(), out)
+            say_line(
+                3,
+                b"image: size differs in lane ",
+                number.format(lane).as_bytes(),
+                out,
+            )
         }
         ImageError::NotBuilt => say(11, b"not built\n", out),
         ImageError::NoMemory => say(9, b"no memory\n", out),

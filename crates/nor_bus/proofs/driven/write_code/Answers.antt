@@ -13,7 +13,7 @@ returns-clause-lanes g c = λ below k there.
     let new = g.B.Bus.state c.write.new.self in
     let wired = c.wrapped-there.ensures.wired in
     let code : lane_of (wide (lane old k)) (g.W.BusWord.bytes c.splat.result) k ≡ spread (wide (lane old k)) c.args.code =
-        ap (λ word. lane_of (wide (lane old k)) word k) c.splat.ensures ∙ splat_there g.W.BusWord.WIDTH wired.device old k c.args.code wired.bank there in
+    ap (λ word. lane_of (wide (lane old k)) word k) c.splat.ensures ∙ splat_there g.W.BusWord.WIDTH wired.device old k c.args.code wired.bank there in
     subst (λ (v : ℕ). lane new k ≡ written (lane old k) c.args.at v) code
     (subst (λ (u : ℕ). lane new k ≡ written (lane old k) u (lane_of (wide (lane old k)) (g.W.BusWord.bytes c.splat.result) k)) (c.wrapped-there.ensures.same below) (c.in_ok-write.ensures.writes.each k there))
 

@@ -20,7 +20,7 @@ returns-in-Err-clause-puts g c =
     (g.K.Sink.taken c.args.out.now) (g.K.Sink.taken c.loop-done.out) (g.K.Sink.taken c.put_piece.new.out)
     (g.K.Sink.faults c.args.out.now) (g.K.Sink.faults c.loop-done.out) (g.K.Sink.faults c.put_piece.new.out) c.in-Err.error c.loop-done.invariant room
     (λ d bank. subst (λ (n : ℕ). PutsText (encode_lower (bank_bytes d now.lanes (c.args.at + c.loop-done.done) n))
-        (record { before = g.K.Sink.taken c.loop-done.out; after = g.K.Sink.taken c.put_piece.new.out; faults_before = g.K.Sink.faults c.loop-done.out; faults_after = g.K.Sink.faults c.put_piece.new.out }) (Err c.in-Err.error)) long (c.in-Err.ensures.puts d bank))
+    (record { before = g.K.Sink.taken c.loop-done.out; after = g.K.Sink.taken c.put_piece.new.out; faults_before = g.K.Sink.faults c.loop-done.out; faults_after = g.K.Sink.faults c.put_piece.new.out }) (Err c.in-Err.error)) long (c.in-Err.ensures.puts d bank))
 
 pub loop-done-preserved : goal.loop-done-preserved
 loop-done-preserved g c =
@@ -34,4 +34,4 @@ loop-done-preserved g c =
     (g.K.Sink.faults c.args.out.now) (g.K.Sink.faults c.loop-done.out) (g.K.Sink.faults c.put_piece.new.out) c.in_default.field-0 c.loop-done.invariant room
     c.put_piece.ensures.same c.put_piece.ensures.open c.put_piece.ensures.units c.put_piece.ensures.later
     (λ d bank. subst (λ (n : ℕ). PutsText (encode_lower (bank_bytes d now.lanes (c.args.at + c.loop-done.done) n))
-        (record { before = g.K.Sink.taken c.loop-done.out; after = g.K.Sink.taken c.put_piece.new.out; faults_before = g.K.Sink.faults c.loop-done.out; faults_after = g.K.Sink.faults c.put_piece.new.out }) (Ok c.in_default.field-0)) long (c.in_default.ensures.puts d bank))
+    (record { before = g.K.Sink.taken c.loop-done.out; after = g.K.Sink.taken c.put_piece.new.out; faults_before = g.K.Sink.faults c.loop-done.out; faults_after = g.K.Sink.faults c.put_piece.new.out }) (Ok c.in_default.field-0)) long (c.in_default.ensures.puts d bank))

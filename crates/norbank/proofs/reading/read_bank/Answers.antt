@@ -31,8 +31,8 @@ returns-clause-says g c = λ device bank.
     let size : c.size_of.result ≡ bank_size old.lanes = c.size_of.ensures.value ∙ (sym (bank_words g.W.BusWord.WIDTH device new c.size_of.ensures.wired kept.0) ∙ kept.1) in
     let within : c.args.at + c.args.len ≤ bank_size old.lanes = omega arith in
     let puts : PutsText (hex_line (bank_bytes device old.lanes c.args.at c.args.len)) (record { before = g.K.Sink.taken c.args.out.now; after = g.K.Sink.taken c.print_bytes-put.new.out; faults_before = g.K.Sink.faults c.args.out.now; faults_after = g.K.Sink.faults c.print_bytes-put.new.out }) c.print_bytes-put.result =
-        subst (λ (l : List ℕ). PutsText (hex_line l) (record { before = g.K.Sink.taken c.args.out.now; after = g.K.Sink.taken c.print_bytes-put.new.out; faults_before = g.K.Sink.faults c.args.out.now; faults_after = g.K.Sink.faults c.print_bytes-put.new.out }) c.print_bytes-put.result)
-        (kept.2 c.args.at c.args.len) (c.print_bytes-put.ensures.puts device kept.0) in
+    subst (λ (l : List ℕ). PutsText (hex_line l) (record { before = g.K.Sink.taken c.args.out.now; after = g.K.Sink.taken c.print_bytes-put.new.out; faults_before = g.K.Sink.faults c.args.out.now; faults_after = g.K.Sink.faults c.print_bytes-put.new.out }) c.print_bytes-put.result)
+    (kept.2 c.args.at c.args.len) (c.print_bytes-put.ensures.puts device kept.0) in
     subst (λ (e : Ending). Says e (record { before = g.K.Sink.taken c.args.out.now; after = g.K.Sink.taken c.print_bytes-put.new.out; faults_before = g.K.Sink.faults c.args.out.now; faults_after = g.K.Sink.faults c.print_bytes-put.new.out }) c.after_put.result.code)
     (sym (ends_inside g.W.BusWord.WIDTH device old.lanes c.args.at c.args.len c.has_answer.result c.has_answer.ensures.answer c.if-not-has_answer.false within))
     (says_so 0 c.after_put.result.code (hex_line (bank_bytes device old.lanes c.args.at c.args.len)) (record { before = g.K.Sink.taken c.args.out.now; after = g.K.Sink.taken c.print_bytes-put.new.out; faults_before = g.K.Sink.faults c.args.out.now; faults_after = g.K.Sink.faults c.print_bytes-put.new.out }) c.print_bytes-put.result puts c.after_put.ensures)

@@ -1,0 +1,24 @@
+use Rattle.std.proofs.Common.{◌≡◌, ◌∙◌, ℕ, List, subst, sym}
+use Rattle.norbank.specs.declared.words.Command.TheVariants.{Read}
+use Rattle.norbank.specs.Open.{PrintsImage}
+use Rattle.norbank.proofs.FileEnds.{read_zero, read_seven}
+use Rattle.norbank.proofs.quiet.quiet.Goals as goal
+
+pub returns-in-Read-clause-printed : goal.returns-in-Read-clause-printed
+returns-in-Read-clause-printed g c = λ at len is zero_is.
+    let told = g.H.Shelf.files c.args.shelf.now in
+    let before = g.K.Sink.taken c.args.out.now in
+    let after = g.K.Sink.taken c.read_named.new.out in
+    let both : Read c.in-Read.at c.in-Read.len ≡ Read at len = sym c.in-Read.is ∙ (c.command_of.ensures ∙ is) in
+    let from : c.in-Read.at ≡ at = cc in
+    let many : c.in-Read.len ≡ len = cc in
+    let printed = read_zero told c.word.result.now c.in-Read.at c.in-Read.len (g.H.Shelf.faults c.args.shelf.now) (g.H.Shelf.faults c.read_named.new.shelf) c.read_named.result.code
+    (record { before = g.K.Sink.taken c.args.out.now; after = g.K.Sink.taken c.read_named.new.out; faults_before = g.K.Sink.faults c.args.out.now; faults_after = g.K.Sink.faults c.read_named.new.out }) c.read_named.ensures.reads zero_is in
+    subst (λ (n : List ℕ). PrintsImage told n at len before after) c.word.ensures
+    (subst (λ (k : ℕ). PrintsImage told c.word.result.now at k before after) many
+    (subst (λ (k : ℕ). PrintsImage told c.word.result.now k c.in-Read.len before after) from printed))
+
+pub returns-in-Read-clause-fault : goal.returns-in-Read-clause-fault
+returns-in-Read-clause-fault g c = λ is.
+    read_seven (g.H.Shelf.files c.args.shelf.now) c.word.result.now c.in-Read.at c.in-Read.len (g.H.Shelf.faults c.args.shelf.now) (g.H.Shelf.faults c.read_named.new.shelf) c.read_named.result.code
+    (record { before = g.K.Sink.taken c.args.out.now; after = g.K.Sink.taken c.read_named.new.out; faults_before = g.K.Sink.faults c.args.out.now; faults_after = g.K.Sink.faults c.read_named.new.out }) c.read_named.ensures.reads is
