@@ -1,0 +1,103 @@
+//! Power goes where it was told to, comes back, and no cell has changed.
+
+use crate::banks::{QRY, Wiring, first_bytes, load};
+use nor_bank::read_range;
+use nor_bus::{Bus, Off, SimBank, read_word, write_code, write_word};
+use nor_cell::Device::X8;
+use nor_cell::{Chip, Geometry};
+use nor_image::Loaded;
+use nor_intel::Intel;
+use std::alloc::Global;
+use std::process::Abort;
+use std::test::Fail;
+
+type Bank = SimBank<u16, Intel>;
+
+const TWO_BYTE_WIDE: Wiring = Wiring {
+    width: 2,
+    geometry: Geometry {
+        lanes: 2,
+        device: X8,
+    },
+};
+
+fn two_byte_bank(rt: &impl Abort, alloc: Global) -> Result<Bank, Fail> {
+    match load(rt, alloc, TWO_BYTE_WIDE, QRY)? {
+        Loaded::Intel16(bank) => Ok(bank),
+        _ => Err("no bank of two-byte words")?,
+    }
+}
+
+fn arm(rt: &impl Abort, bank: &mut Bank, after: u32) {
+    assert!(rt; bank.is_on());
+    bank.arm(after, 0xFF);
+}
+
+// So many cycles reach the chips, all later ones fail, and every failed cycle is counted.
+fn goes_off_after(rt: &impl Abort, bank: &mut Bank, after: u32) {
+    let cycles = bank.cycles().wrapping_add(u64::from(after));
+    let failed = bank.failed();
+    for _ in 0..after {
+        assert!(rt; read_word::<u16, Bank>(bank, 0).is_ok());
+        assert!(rt; bank.is_on());
+    }
+    assert_eq!(rt; read_word::<u16, Bank>(bank, 0), Err(Off));
+    assert!(rt; !bank.is_on());
+    assert_eq!(rt; bank.failed(), failed.wrapping_add(1));
+    assert_eq!(rt; write_word::<u16, Bank>(bank, 0, 0), Err(Off));
+    assert_eq!(rt; write_code::<u16, Bank>(bank, 0, 0x20), Err(Off));
+    assert_eq!(rt; bank.failed(), failed.wrapping_add(3));
+    assert_eq!(rt; bank.cycles(), cycles);
+}
+
+// Power comes back, and the bank has these bytes at its start.
+fn comes_back(rt: &impl Abort, bank: &mut Bank, bytes: &[u8]) {
+    assert!(rt; !bank.is_on());
+    bank.power_on();
+    assert!(rt; bank.is_on());
+    let mut range = [0; 1024];
+    assert!(rt; read_range::<u16, Bank>(bank, 0, &mut range).is_ok());
+    assert_eq!(rt; bytes.get(..1024), Some(range.as_slice()));
+}
+
+// The bank has so many bus words, and lane 0's chip has its own bytes.
+fn has_first_chip(rt: &impl Abort, bank: &Bank, units: u32) {
+    assert_eq!(rt; bank.units(), units);
+    let bytes = &bank.chip(0).cells().bytes;
+    assert_eq!(rt; bytes.get(0xFE..0x101), Some([0xFE, 0xFF, 0].as_slice()));
+}
+
+#[test]
+fn a_bank_just_loaded_has_power_and_its_chips(rt: HostRuntime) -> Result<(), Fail> {
+    let bank = two_byte_bank(&rt, rt.alloc())?;
+    has_first_chip(&rt, &bank, 4096);
+    assert!(rt; bank.is_on());
+    assert_eq!(rt; bank.cycles(), 0);
+    assert_eq!(rt; bank.failed(), 0);
+    Ok(())
+}
+
+#[test]
+fn power_goes_after_the_armed_cycles(rt: HostRuntime) -> Result<(), Fail> {
+    let bytes = first_bytes(rt.alloc(), TWO_BYTE_WIDE.geometry)?;
+    let mut bank = two_byte_bank(&rt, rt.alloc())?;
+    for after in [0, 1, 2] {
+        arm(&rt, &mut bank, after);
+        goes_off_after(&rt, &mut bank, after);
+        comes_back(&rt, &mut bank, &bytes);
+    }
+    Ok(())
+}
+
+#[test]
+fn a_second_arm_replaces_the_first(rt: HostRuntime) -> Result<(), Fail> {
+    let bytes = first_bytes(rt.alloc(), TWO_BYTE_WIDE.geometry)?;
+    let mut bank = two_byte_bank(&rt, rt.alloc())?;
+    for (first, second) in [(0, 2), (2, 1)] {
+        arm(&rt, &mut bank, first);
+        arm(&rt, &mut bank, second);
+        goes_off_after(&rt, &mut bank, second);
+        comes_back(&rt, &mut bank, &bytes);
+    }
+    Ok(())
+}
