@@ -1,14 +1,12 @@
 -- How many units and bytes a bus has.
-use Rattle.std.proofs.Common.{◌≡◌, ◌<◌, ◌≤◌, ◌+◌, ◌*◌, ◌/◌, ◌%◌, ◌^◌, ◌==◌, ◌||◌, ◌≢◌, ◌⊎◌, inl, inr, ◌∷◌, [], Bool, ℕ, List, length, true, refl, sym, ap, subst, ◌∙◌, arith, IsTrue}
+use Rattle.std.proofs.Common.{◌≡◌, ◌≤◌, ◌*◌, ◌/◌, ◌%◌, ◌^◌, ◌==◌, ◌||◌, ◌≢◌, ◌⊎◌, inl, inr, ◌∷◌, [], Bool, ℕ, List, length, true, refl, sym, subst, arith}
 use Rattle.std.specs.List.{list_any}
 use Rattle.std.proofs.lemmas.Bool.{cases_eq}
 use Rattle.nor_cell.specs.Bits.{unit_len}
 use Rattle.nor_cell.specs.Ranges.{is_chip_size}
-use Rattle.nor_cell.specs.Chip.{ChipState}
 use Rattle.nor_cell.specs.declared.device.Device.{Device}
 use Rattle.nor_cell.specs.declared.device.Device.TheVariants.{X8, X16, X16Byte}
-use Rattle.nor_bus.specs.Bus.{BusState, IsWired, lane, lanes_of, units_of, wide, bank_size, chip_at}
-use Rattle.nor_bus.proofs.Driving.{some_lane, few_lanes, fills_word}
+use Rattle.nor_bus.specs.Bus.{BusState, IsWired, lane, units_of, wide}
 
 -- from 2 ^ 12 to 2 ^ 27, and even
 abbrev IsFit : ℕ → Type 0

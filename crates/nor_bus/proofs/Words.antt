@@ -1,14 +1,13 @@
 -- Bus words by their lanes.
-use Rattle.std.proofs.Common.{◌≡◌, ◌<◌, ◌≤◌, ◌+◌, ◌*◌, ◌/◌, ◌%◌, ℕ, zero, suc, List, [], ◌∷◌, ◌++◌, length, slice_index, slice_index_or, refl, sym, ap, subst, ◌∙◌, arith}
+use Rattle.std.proofs.Common.{◌≡◌, ◌<◌, ◌+◌, ◌*◌, ◌/◌, ◌%◌, ℕ, suc, List, [], ◌∷◌, ◌++◌, length, slice_index, refl, sym, ap, ◌∙◌, arith}
 use Rattle.std.proofs.Math.Nat.{mod-eq_of_lt}
 use Rattle.nor_cell.specs.Bits.{unit_len, unit_bytes, AreBytes}
-use Rattle.nor_cell.specs.Chip.{ChipState, Part}
-use Rattle.nor_cell.specs.Steps.{Keeps}
+use Rattle.nor_cell.specs.Chip.{ChipState}
 use Rattle.nor_cell.specs.declared.device.Device.{Device}
 use Rattle.nor_cell.specs.declared.device.Device.TheVariants.{X8, X16, X16Byte}
 use Rattle.nor_word.specs.Word.{lane_of}
 use Rattle.nor_bus.specs.Bus.{chip_at}
-use Rattle.nor_bus.specs.Words.{side_by_side, query_word}
+use Rattle.nor_bus.specs.Words.{side_by_side}
 
 -- ---- lists of chips, by lane number
 

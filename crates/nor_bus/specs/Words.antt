@@ -1,5 +1,5 @@
 -- A bus word made of what the chips say, each in its lane.
-use Rattle.std.specs.Prelude.{◌≡◌, ◌<◌, ◌++◌, ℕ, List, [], ◌∷◌}
+use Rattle.std.specs.Prelude.{◌++◌, ℕ, List, [], ◌∷◌}
 use Rattle.nor_cell.specs.Bits.{unit_bytes, unit_at}
 use Rattle.nor_cell.specs.Chip.{ChipState}
 use Rattle.nor_cell.specs.Intel.{query_at}

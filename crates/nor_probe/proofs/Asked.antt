@@ -1,20 +1,19 @@
 -- One chip that is asked, and the word of several.
-use Rattle.std.proofs.Common.{Result, Ok, Err, OnErr, ◌≡◌, ◌<◌, ◌≤◌, ◌+◌, ◌*◌, ◌%◌, ◌==◌, ℕ, List, length, slice_index, refl, sym, ap, subst, ◌∙◌, arith, if◌then◌else◌, Bool, true, false, ◌⊎◌, inl, inr}
+use Rattle.std.proofs.Common.{Result, Ok, Err, OnErr, ◌≡◌, ◌<◌, ◌%◌, ℕ, List, length, sym, ap, subst, ◌∙◌, arith}
 use Rattle.nor_cell.specs.Bits.{unit_len, AreBytes}
-use Rattle.nor_cell.specs.Chip.{ChipState, Query}
-use Rattle.nor_cell.specs.Resting.{IsResting, IsShown, reset}
+use Rattle.nor_cell.specs.Chip.{ChipState}
 use Rattle.nor_cell.specs.Intel.{query_at}
 use Rattle.nor_cell.specs.Steps.{Reads, written}
 use Rattle.nor_cell.specs.declared.device.Device.{Device}
 use Rattle.nor_cell.specs.declared.device.Device.TheVariants.{X8, X16, X16Byte}
-use Rattle.nor_cell.proofs.Resting.{resets, enters_query, reads_query, reset_shows}
+use Rattle.nor_cell.proofs.Resting.{resets, enters_query, reads_query}
 use Rattle.nor_word.specs.Word.{lane_of}
-use Rattle.nor_bus.specs.Bus.{BusState, IsWired, IsBank, lane, lanes_of, wide, chip_at}
+use Rattle.nor_bus.specs.Bus.{BusState, IsWired, lane, lanes_of, wide}
 use Rattle.nor_bus.specs.Driven.{TakesCode, AllLanes, spread}
 use Rattle.nor_bus.specs.Words.{query_word}
 use Rattle.nor_bus.proofs.Driving.{fills_word}
 use Rattle.nor_bus.proofs.Words.{word_is}
-use Rattle.nor_probe.specs.Asking.{Resets, Enters, Asks, ShowsQuery, Stays}
+use Rattle.nor_probe.specs.Asking.{Resets, Enters, ShowsQuery, Stays}
 
 spread_by : (device : Device) (code : ℕ) → code < 256 → spread (unit_len device) code % 256 ≡ code
 spread_by X8 code small = omega arith

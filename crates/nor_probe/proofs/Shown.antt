@@ -1,5 +1,5 @@
 -- What several readings of the query table show together.
-use Rattle.std.proofs.Common.{slice_index_or, suc, ◌≡◌, ◌<◌, ◌≤◌, ◌+◌, ◌*◌, ◌&&◌, ℕ, List, length, refl, sym, ap, subst, ◌∙◌, arith, Bool, true, false, drop, ◌∷◌, Option, Some, None, cond}
+use Rattle.std.proofs.Common.{slice_index_or, suc, ◌≡◌, ◌<◌, ◌+◌, ◌*◌, ◌&&◌, ℕ, List, length, refl, sym, ap, subst, ◌∙◌, arith, Bool, true, false, drop, ◌∷◌, Some, cond}
 use Rattle.std.specs.List.{find}
 use Rattle.std.proofs.Math.Seq.{drop-cons}
 use Rattle.nor_cell.specs.Bits.{unit_bytes, unit_len}
@@ -8,14 +8,14 @@ use Rattle.nor_cell.specs.Intel.{query_at}
 use Rattle.nor_cell.specs.Resting.{IsResting, reset}
 use Rattle.nor_cell.proofs.Resting.{query_resting}
 use Rattle.nor_cell.specs.declared.geometry.Geometry.{Geometry}
-use Rattle.nor_bus.specs.Bus.{BusState, lane, lanes_of, chip_at}
+use Rattle.nor_bus.specs.Bus.{BusState, lane, chip_at}
 use Rattle.nor_bus.specs.Cycles.{KeepsLanes}
 use Rattle.nor_bus.specs.Driven.{EachLane, AllLanes, Went}
 use Rattle.nor_bus.specs.Words.{query_word}
 use Rattle.nor_bus.proofs.Words.{same_chips, same_words}
 use Rattle.nor_bus.proofs.Driving.{went_then, went_none}
 use Rattle.nor_lane.specs.Candidates.{candidates_of}
-use Rattle.nor_probe.specs.Asking.{Resets, Enters, Asks, ShowsQuery, Stays, Rests}
+use Rattle.nor_probe.specs.Asking.{Resets, Asks, ShowsQuery, Stays, Rests}
 use Rattle.nor_probe.specs.Found.{lanes_read, query_address, shows_at, shows_qry, found_geometry}
 
 -- ---- chips that stay as they are

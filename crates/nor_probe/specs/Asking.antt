@@ -1,6 +1,6 @@
 -- What asking a bank does to each of its chips.
-use Rattle.std.specs.Prelude.{◌≡◌, ℕ}
-use Rattle.nor_cell.specs.Chip.{ChipState, Query, Rest, Idle, NotHeld, NoFault}
+use Rattle.std.specs.Prelude.{◌≡◌}
+use Rattle.nor_cell.specs.Chip.{ChipState, Query, Idle, NoFault}
 use Rattle.nor_cell.specs.Resting.{IsResting, IsShown, reset}
 
 -- a resting chip was reset

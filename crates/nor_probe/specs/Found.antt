@@ -1,5 +1,5 @@
 -- Which wiring a bank answers to.
-use Rattle.std.specs.Prelude.{◌≡◌, ◌*◌, ◌==◌, ◌&&◌, ℕ, zero, suc, Bool, true, List, Option}
+use Rattle.std.specs.Prelude.{◌*◌, ◌==◌, ◌&&◌, ℕ, zero, suc, Bool, true, List, Option}
 use Rattle.std.specs.List.{find}
 use Rattle.nor_cell.specs.Bits.{unit_len}
 use Rattle.nor_cell.specs.Chip.{ChipState}

@@ -1,6 +1,4 @@
-use Rattle.std.proofs.Common.{map, length, ◌≡◌, ◌<◌, ap, sym, subst, ◌∙◌, ℕ}
-use Rattle.nor_cell.specs.Chip.{ChipState}
-use Rattle.nor_cell.specs.Steps.{Keeps, written}
+use Rattle.std.proofs.Common.{map}
 use Rattle.nor_bus.specs.Chips.{TakesKept}
 use Rattle.nor_bus.specs.Bus.{chip_at}
 use Rattle.nor_bus.proofs.OneMore.{changed_more, takes}

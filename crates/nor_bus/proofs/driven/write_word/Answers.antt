@@ -1,7 +1,7 @@
-use Rattle.std.proofs.Common.{◌≡◌, ◌<◌, ℕ, List, OnOk, subst, sym}
-use Rattle.nor_cell.specs.Steps.{Reads, written}
+use Rattle.std.proofs.Common.{◌≡◌, ℕ, subst}
+use Rattle.nor_cell.specs.Steps.{written}
 use Rattle.nor_word.specs.Word.{lane_of}
-use Rattle.nor_bus.specs.Bus.{units_of, lane, lanes_of, wide}
+use Rattle.nor_bus.specs.Bus.{lane, wide}
 use Rattle.nor_bus.proofs.Driving.{went_one}
 use Rattle.nor_bus.proofs.driven.write_word.Goals as goal
 

@@ -1,5 +1,3 @@
-use Rattle.std.proofs.Common.{◌≡◌, ◌<◌, ℕ, arith}
-use Rattle.nor_bus.proofs.Sizes.{bus_units}
 use Rattle.nor_bus.specs.Bus.{lane}
 use Rattle.nor_probe.proofs.Asked.{query_is, stays}
 use Rattle.nor_probe.proofs.asking.read_query.Goals as goal

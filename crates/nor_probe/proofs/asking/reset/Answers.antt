@@ -1,4 +1,4 @@
-use Rattle.std.proofs.Common.{◌≡◌, ◌<◌, ℕ, arith}
+use Rattle.std.proofs.Common.{arith}
 use Rattle.nor_bus.proofs.Driving.{went_then}
 use Rattle.nor_bus.proofs.Sizes.{bus_units}
 use Rattle.nor_bus.specs.Bus.{lane}

@@ -1,4 +1,4 @@
-use Rattle.std.proofs.Common.{◌≡◌, ◌<◌, ◌+◌, ◌*◌, ◌∙◌, ℕ, List, ap, arith, length, slice_index_or}
+use Rattle.std.proofs.Common.{◌≡◌, ◌*◌, ◌∙◌, ap, arith, slice_index_or}
 use Rattle.nor_cell.specs.declared.geometry.Geometry.{Geometry}
 use Rattle.nor_cell.specs.declared.device.Device.TheVariants.{X8}
 use Rattle.nor_bus.specs.Driven.{Lost}

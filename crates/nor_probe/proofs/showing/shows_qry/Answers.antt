@@ -1,4 +1,4 @@
-use Rattle.std.proofs.Common.{◌≡◌, ◌<◌, ◌∙◌, ℕ, ap, arith, subst, sym}
+use Rattle.std.proofs.Common.{◌∙◌, arith}
 use Rattle.nor_bus.specs.Bus.{lane}
 use Rattle.nor_bus.specs.Driven.{Lost}
 use Rattle.nor_bus.proofs.Driving.{went_then, lost_then}
