@@ -1,12 +1,10 @@
 -- What reading a bank leaves of it, and how it ends.
-use Rattle.std.proofs.Common.{◌≡◌, ◌<◌, ◌≤◌, ◌+◌, ◌*◌, ◌/◌, ◌%◌, ◌∙◌, ◌⊎◌, ℕ, zero, suc, List, [], ◌∷◌, ◌++◌, length, slice_index, refl, sym, ap, subst, arith, Option, Some, None, Bool, true, false, nat_lt, is_some, append_assoc, get_or, if◌then◌else◌, codes}
-use Rattle.std.proofs.Math.Nat.{mul_assoc, mul_comm, mul_left_comm}
+use Rattle.std.proofs.Common.{◌≡◌, ◌<◌, ◌≤◌, ◌+◌, ◌*◌, ◌/◌, ◌%◌, ◌∙◌, ℕ, zero, suc, List, [], ◌∷◌, ◌++◌, length, slice_index, refl, sym, ap, subst, arith, Option, Some, None, Bool, true, false, nat_lt, is_some, get_or, if◌then◌else◌, codes}
+use Rattle.std.proofs.Math.Nat.{mul_left_comm}
 use Rattle.hex.specs.Hex.{encode_with, encode_lower, lower_digits}
 use Rattle.nor_cell.specs.Bits.{unit_len}
 use Rattle.nor_cell.specs.Chip.{ChipState}
-use Rattle.nor_cell.specs.Resting.{reset}
 use Rattle.nor_cell.specs.declared.device.Device.{Device}
-use Rattle.nor_cell.specs.declared.device.Device.TheVariants.{X8, X16, X16Byte}
 use Rattle.nor_cell.specs.declared.geometry.Geometry.{Geometry}
 use Rattle.nor_bus.specs.Bus.{BusState, IsBank, IsWired, lane, lanes_of, chip_at, units_of, wide, bank_byte, bank_bytes, bank_size}
 use Rattle.nor_bus.specs.Cycles.{KeepsLanes}
@@ -17,8 +15,8 @@ use Rattle.nor_lane.proofs.Places.{lane_at_below}
 use Rattle.nor_bank.specs.Ranges.{IsReadable, AreOfBank}
 use Rattle.nor_probe.specs.Asking.{Resets}
 use Rattle.nor_probe.specs.Found.{found_geometry}
-use Rattle.norbank.specs.Endings.{Ending, ends, bank_ending, probed_ending, range_ending}
-use Rattle.norbank.specs.Open.{IsPowered, IsIdleChip, IsOpen, SameBytes}
+use Rattle.norbank.specs.Endings.{ends, bank_ending, probed_ending, range_ending}
+use Rattle.norbank.specs.Open.{IsIdleChip, IsOpen, SameBytes}
 use Rattle.norbank.specs.Text.{hex_line, out_of_range, no_answer}
 
 -- ---- bytes of a bank

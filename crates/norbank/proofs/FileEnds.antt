@@ -1,12 +1,12 @@
 -- How a read ends, by the file and what the shelf tells of it.
-use Rattle.std.proofs.Common.{◌≡◌, ◌≢◌, ◌<◌, ◌≤◌, ◌+◌, ◌^◌, ◌∙◌, ◌⊎◌, inl, inr, ℕ, zero, suc, List, [], ◌∷◌, ◌++◌, length, refl, sym, ap, subst, arith, Option, Some, None, Bool, true, false, nat_lt, is_some, if◌then◌else◌, IsSome, IsSomeAnd, slice_index_or}
+use Rattle.std.proofs.Common.{◌≡◌, ◌≢◌, ◌<◌, ◌≤◌, ◌+◌, ◌^◌, ◌∙◌, ◌⊎◌, inl, inr, ℕ, zero, suc, List, [], ◌∷◌, ◌++◌, length, refl, sym, ap, subst, arith, Option, Some, None, Bool, true, false, nat_lt, if◌then◌else◌, IsSome, IsSomeAnd}
 use Rattle.std.proofs.lemmas.Bool.{cases_eq}
 use Rattle.nor_cell.specs.Chip.{ChipState}
 use Rattle.nor_cell.specs.declared.device.Device.{Device}
 use Rattle.nor_cell.specs.declared.device.Set.{Set}
 use Rattle.nor_cell.specs.declared.device.Set.TheVariants.{Intel, Amd}
 use Rattle.nor_cell.specs.declared.geometry.Geometry.{Geometry}
-use Rattle.nor_bus.specs.Bus.{chip_at, no_chip, bank_bytes, bank_size}
+use Rattle.nor_bus.specs.Bus.{chip_at, bank_bytes, bank_size}
 use Rattle.nor_bus.proofs.Words.{same_chips}
 use Rattle.nor_probe.specs.Found.{found_geometry}
 use Rattle.nor_image.specs.Image.{image_refusal, machine_of, device_of, width_of, lanes_of_file, record_place, chip_in, IsImageOf, IsCause}
@@ -16,7 +16,7 @@ use Rattle.nor_io.specs.Files.{FileMap, HasFile, IsAbsent, IsTooLarge, Rose, App
 use Rattle.norbank.specs.Endings.{Ending, ends, refused_ending, range_ending, probed_ending, bank_ending, chips_before, chips_of_file, formed_ending, image_ending, file_ending, found_ending}
 use Rattle.norbank.specs.Open.{PrintsImage}
 use Rattle.norbank.specs.Says.{Taken, Says, SaysOrLacks, IsFound, ReadEnds}
-use Rattle.norbank.specs.Text.{hex_line, not_built, no_memory, out_of_range, no_answer, too_large, absent, read_fault}
+use Rattle.norbank.specs.Text.{hex_line, not_built, no_memory, out_of_range, too_large, read_fault}
 use Rattle.norbank.proofs.BankBytes.{lt_false, lt_true}
 
 -- ---- the chips of a file
@@ -36,7 +36,7 @@ snoc_front [] y c below = absurd (omega arith)
 snoc_front (x ∷ xs) y zero below = refl
 snoc_front (x ∷ xs) y (suc c) below = snoc_front xs y c (omega arith)
 
-chips_length : (file : List ℕ) (n : ℕ) → length (chips_before file n) ≡ n
+pub chips_length : (file : List ℕ) (n : ℕ) → length (chips_before file n) ≡ n
 chips_length file zero = refl
 chips_length file (suc n) =
     let e = chips_length file n in
@@ -53,7 +53,7 @@ chip_more file n c below front (inr ne) =
     let size = chips_length file n in
     snoc_front (chips_before file n) (chip_in file Intel (device_of file) (record_place file n)) c (omega arith) ∙ front (omega arith)
 
-chip_there : (file : List ℕ) (n c : ℕ) → c < n → chip_at (chips_before file n) c ≡ chip_in file Intel (device_of file) (record_place file c)
+pub chip_there : (file : List ℕ) (n c : ℕ) → c < n → chip_at (chips_before file n) c ≡ chip_in file Intel (device_of file) (record_place file c)
 chip_there file zero c below = absurd (omega arith)
 chip_there file (suc n) c below = chip_more file n c (omega arith) (λ less. chip_there file n c less) (cases_eq c n)
 
@@ -154,7 +154,7 @@ range_codes : (device : Device) (chips : List ChipState) (at len : ℕ) (b : Boo
 range_codes device chips at len true is = (λ x. omega arith, λ x. absurd (omega arith))
 range_codes device chips at len false is = (λ x. omega arith, λ x. grind (arith, is))
 
-range_text : (device : Device) (chips : List ChipState) (at len : ℕ) → at + len ≤ bank_size chips → range_ending device chips at len ≡ ends 0 (hex_line (bank_bytes device chips at len))
+pub range_text : (device : Device) (chips : List ChipState) (at len : ℕ) → at + len ≤ bank_size chips → range_ending device chips at len ≡ ends 0 (hex_line (bank_bytes device chips at len))
 range_text device chips at len within = ap (λ (b : Bool). if b then ends 10 out_of_range else ends 0 (hex_line (bank_bytes device chips at len))) (lt_false (bank_size chips) (at + len) within)
 
 probed_codes : (found : Option Geometry) (device : Device) (chips : List ChipState) (at len : ℕ)

@@ -1,9 +1,9 @@
 -- Texts that are put one after the other.
-use Rattle.std.proofs.Common.{◌≡◌, ◌⊎◌, inl, inr, ◌≤◌, ◌+◌, ℕ, List, ◌++◌, Option, Result, Ok, Err, arith, subst, sym, ap, ◌∙◌}
+use Rattle.std.proofs.Common.{◌≡◌, inl, inr, ◌≤◌, ℕ, List, ◌++◌, Option, Result, Ok, Err, arith, subst, sym, ap, ◌∙◌}
 use Rattle.nor_image.specs.declared.error.ImageError.{ImageError}
 use Rattle.nor_io.specs.declared.sink.SinkError.{SinkError}
 use Rattle.nor_io.specs.declared.sink.SinkError.TheVariants.{Fault, NoMemory}
-use Rattle.nor_io.specs.Files.{Rose, Appends, AppendsPart}
+use Rattle.nor_io.specs.Files.{Rose, Appends}
 use Rattle.nor_io.proofs.Pieces.{Appends-append, AppendsPart-append, AppendsPart-more}
 use Rattle.norbank.specs.Endings.{Ending, ends, refused_ending}
 use Rattle.norbank.specs.Text.{line_of}

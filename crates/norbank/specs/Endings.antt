@@ -1,5 +1,5 @@
 -- How a command ends, by its words and the file that it reads.
-use Rattle.std.specs.Prelude.{◌≡◌, ◌≤◌, ◌<◌, ◌+◌, ◌^◌, ℕ, zero, suc, List, [], ◌∷◌, ◌++◌, length, Option, Some, None, Bool, nat_lt, if◌then◌else◌, codes, decimal, String}
+use Rattle.std.specs.Prelude.{◌+◌, ◌^◌, ℕ, zero, suc, List, [], ◌∷◌, ◌++◌, length, Option, Some, None, nat_lt, if◌then◌else◌, codes, decimal}
 use Rattle.nor_cell.specs.Chip.{ChipState}
 use Rattle.nor_cell.specs.declared.device.Device.{Device}
 use Rattle.nor_cell.specs.declared.device.Set.{Set}
@@ -10,8 +10,7 @@ use Rattle.nor_probe.specs.Found.{found_geometry}
 use Rattle.nor_image.specs.Image.{image_refusal, machine_of, device_of, width_of, lanes_of_file, record_place, chip_in}
 use Rattle.nor_image.specs.declared.error.ImageError.{ImageError}
 use Rattle.nor_image.specs.declared.error.ImageError.TheVariants.{BadMagic, BadHeader, Truncated, Trailing, SizeDiffers, NotBuilt, NoMemory}
-use Rattle.nor_io.specs.Files.{FileMap}
-use Rattle.norbank.specs.Text.{hex_line, usage, not_built, no_memory, out_of_range, no_answer, too_large, absent, line_of}
+use Rattle.norbank.specs.Text.{hex_line, not_built, no_memory, out_of_range, no_answer, too_large, absent, line_of}
 
 -- a status, and the text that is put with it
 pub record Ending : Type 0 where

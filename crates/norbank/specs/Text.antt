@@ -1,5 +1,5 @@
 -- Texts that the program puts, and bytes as hex text.
-use Rattle.std.specs.Prelude.{ℕ, List, [], ◌∷◌, ◌++◌, codes, decimal}
+use Rattle.std.specs.Prelude.{ℕ, List, [], ◌∷◌, ◌++◌, codes}
 use Rattle.hex.specs.Hex.{encode_lower}
 
 -- a line of lower-case hex text, a dash for no bytes

@@ -1,5 +1,6 @@
-ghost use Rattle.std.specs.Prelude.{◌≡◌, ◌⊎◌, ◌≤◌, ℕ};
-ghost use Rattle.nor_io.specs.Files.{Rose};
+ghost use Rattle.std.specs.Prelude.{◌≡◌, ◌⊎◌, ◌≤◌, ◌^◌, ℕ, List, length, Some};
+ghost use Rattle.nor_io.specs.Files.{FileMap, Rose};
+ghost use Rattle.norbank.specs.Answering.{CanPrint, IsDone};
 ghost use Rattle.norbank.specs.Endings.{ends};
 ghost use Rattle.norbank.specs.Open.{PrintsImage};
 ghost use Rattle.norbank.specs.Says.{Says, ReadEnds};
@@ -56,6 +57,9 @@ pub fn quiet<H: Shelf, K: Sink>(
 
     // With status 0 the bytes of the image have been printed.
     ensures printed { (at len : ℕ) → asked words.now ≡ Command.Read at len → result.code ≡ 0 → PrintsImage (H.files shelf.old) (word_at words.now 1) at len (K.taken out.old) (K.taken out.new) }
+
+    // Bytes that can be printed are, unless a fault or want of memory comes between.
+    ensures complete { (at len : ℕ) (files : FileMap) (file : List ℕ) → asked words.now ≡ Command.Read at len → H.files shelf.old ≡ Some files → files (word_at words.now 1) ≡ Some file → length file ≤ 2 ^ 30 → CanPrint file at len → IsDone (H.faults shelf.old) (H.faults shelf.new) (record { before = K.taken out.old; after = K.taken out.new; faults_before = K.faults out.old; faults_after = K.faults out.new }) result.code }
 
     // Status 7 comes only where a count of faults rose.
     ensures fault { result.code ≡ 7 → Rose (H.faults shelf.old) (H.faults shelf.new) ⊎ Rose (K.faults out.old) (K.faults out.new) }

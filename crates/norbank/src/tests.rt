@@ -110,6 +110,15 @@ fn file_of(alloc: Global, image: Image) -> Result<Vec<u8>, AllocError> {
     Ok(file)
 }
 
+// The first `len` bytes of a file, or all that it has.
+fn first_part(file: &[u8], len: usize) -> &[u8] {
+    if len <= file.len() {
+        &file[..len]
+    } else {
+        file
+    }
+}
+
 fn words_of(alloc: Global, texts: &[&str]) -> Result<Vec<String>, AllocError> {
     let mut words = Vec::new(alloc);
     for text in texts {
@@ -153,16 +162,65 @@ fn expect(
 fn bytes_of_any_wiring_are_printed(rt: HostRuntime) -> Result<(), Fail> {
     let alloc = rt.alloc();
     let one = file_of(alloc, ONE_X16)?;
-    expect(&rt, alloc, &one, &["read", "bank", "0x10", "4"], 0, b"10111213\n")?;
-    expect(&rt, alloc, &one, &["read", "bank", "3", "3"], 0, b"030405\n")?;
-    expect(&rt, alloc, &one, &["read", "bank", "0x1FFF", "1"], 0, b"ff\n")?;
-    expect(&rt, alloc, &one, &["read", "bank", "0x2000", "0"], 0, b"-\n")?;
+    expect(
+        &rt,
+        alloc,
+        &one,
+        &["read", "bank", "0x10", "4"],
+        0,
+        b"10111213\n",
+    )?;
+    expect(
+        &rt,
+        alloc,
+        &one,
+        &["read", "bank", "3", "3"],
+        0,
+        b"030405\n",
+    )?;
+    expect(
+        &rt,
+        alloc,
+        &one,
+        &["read", "bank", "0x1FFF", "1"],
+        0,
+        b"ff\n",
+    )?;
+    expect(
+        &rt,
+        alloc,
+        &one,
+        &["read", "bank", "0x2000", "0"],
+        0,
+        b"-\n",
+    )?;
     let two = file_of(alloc, TWO_X8)?;
-    expect(&rt, alloc, &two, &["read", "bank", "3", "3"], 0, b"fe02fd\n")?;
+    expect(
+        &rt,
+        alloc,
+        &two,
+        &["read", "bank", "3", "3"],
+        0,
+        b"fe02fd\n",
+    )?;
     let four = file_of(alloc, FOUR_X16)?;
-    expect(&rt, alloc, &four, &["read", "bank", "0x7", "2"], 0, b"0102\n")?;
+    expect(
+        &rt,
+        alloc,
+        &four,
+        &["read", "bank", "0x7", "2"],
+        0,
+        b"0102\n",
+    )?;
     let byte = file_of(alloc, ONE_X16_IN_BYTE_MODE)?;
-    expect(&rt, alloc, &byte, &["read", "bank", "0x1ff", "3"], 0, b"ff0001\n")?;
+    expect(
+        &rt,
+        alloc,
+        &byte,
+        &["read", "bank", "0x1ff", "3"],
+        0,
+        b"ff0001\n",
+    )?;
     Ok(())
 }
 
@@ -174,8 +232,14 @@ fn a_range_of_several_pieces_is_printed_whole(rt: HostRuntime) -> Result<(), Fai
     assert_eq!(rt; code, 0);
     assert_eq!(rt; text.len(), 16383);
     assert_eq!(rt; text[..4].to_vec(alloc)?.as_slice(), b"0102".as_slice());
-    assert_eq!(rt; text[8190..8194].to_vec(alloc)?.as_slice(), b"0001".as_slice());
-    assert_eq!(rt; text[16378..].to_vec(alloc)?.as_slice(), b"feff\n".as_slice());
+    assert_eq!(rt;
+        text[8190..8194].to_vec(alloc)?.as_slice(),
+        b"0001".as_slice()
+    );
+    assert_eq!(rt;
+        text[16378..].to_vec(alloc)?.as_slice(),
+        b"feff\n".as_slice()
+    );
     Ok(())
 }
 
@@ -183,15 +247,64 @@ fn a_range_of_several_pieces_is_printed_whole(rt: HostRuntime) -> Result<(), Fai
 fn refusals_name_their_cause(rt: HostRuntime) -> Result<(), Fail> {
     let alloc = rt.alloc();
     let one = file_of(alloc, ONE_X16)?;
-    expect(&rt, alloc, &one, &["read", "bank", "0x2000", "1"], 10, b"out of range\n")?;
-    expect(&rt, alloc, &one, &["read", "bank", "0x2001", "0"], 10, b"out of range\n")?;
-    expect(&rt, alloc, &one, &["read", "other", "0", "1"], 8, b"absent other\n")?;
-    expect(&rt, alloc, b"hello, world\n", &["read", "bank", "0", "1"], 3, b"image: bad magic\n")?;
-    expect(&rt, alloc, &one[..8739], &["read", "bank", "0", "1"], 3, b"image: truncated at 8739\n")?;
+    expect(
+        &rt,
+        alloc,
+        &one,
+        &["read", "bank", "0x2000", "1"],
+        10,
+        b"out of range\n",
+    )?;
+    expect(
+        &rt,
+        alloc,
+        &one,
+        &["read", "bank", "0x2001", "0"],
+        10,
+        b"out of range\n",
+    )?;
+    expect(
+        &rt,
+        alloc,
+        &one,
+        &["read", "other", "0", "1"],
+        8,
+        b"absent other\n",
+    )?;
+    expect(
+        &rt,
+        alloc,
+        b"hello, world\n",
+        &["read", "bank", "0", "1"],
+        3,
+        b"image: bad magic\n",
+    )?;
+    expect(
+        &rt,
+        alloc,
+        first_part(&one, 8739),
+        &["read", "bank", "0", "1"],
+        3,
+        b"image: truncated at 8739\n",
+    )?;
     let silent = file_of(alloc, SILENT)?;
-    expect(&rt, alloc, &silent, &["read", "bank", "0", "1"], 5, b"probe: no answer\n")?;
+    expect(
+        &rt,
+        alloc,
+        &silent,
+        &["read", "bank", "0", "1"],
+        5,
+        b"probe: no answer\n",
+    )?;
     let other = file_of(alloc, OF_THE_OTHER_SET)?;
-    expect(&rt, alloc, &other, &["read", "bank", "0", "1"], 11, b"not built\n")?;
+    expect(
+        &rt,
+        alloc,
+        &other,
+        &["read", "bank", "0", "1"],
+        11,
+        b"not built\n",
+    )?;
     let (code, text) = run(alloc, &["read", "bank", "0", "1"], &one, &[0], &[])?;
     assert_eq!(rt; code, 7);
     assert_eq!(rt; text.as_slice(), b"read fault bank\n".as_slice());
@@ -221,10 +334,20 @@ fn words_that_are_no_form_are_usage(rt: HostRuntime) -> Result<(), Fail> {
     for words in forms {
         let (code, text) = run(alloc, words, b"", &[], &[])?;
         assert_eq!(rt; code, 2);
-        assert_eq!(rt; text.starts_with(b"usage: norbank read IMAGE ADDR LEN"), true);
+        assert_eq!(rt;
+            text.starts_with(b"usage: norbank read IMAGE ADDR LEN"),
+            true
+        );
     }
     expect(&rt, alloc, b"", &["show", "bank"], 11, b"not built\n")?;
-    expect(&rt, alloc, b"", &["run", "bank", "script"], 11, b"not built\n")?;
+    expect(
+        &rt,
+        alloc,
+        b"",
+        &["run", "bank", "script"],
+        11,
+        b"not built\n",
+    )?;
     expect(&rt, alloc, b"", &["drill", "10"], 11, b"not built\n")?;
     Ok(())
 }
@@ -234,10 +357,14 @@ fn a_file_that_is_cut_short_never_faults_the_program(rt: HostRuntime) -> Result<
     let alloc = rt.alloc();
     let one = file_of(alloc, ONE_X16)?;
     for len in 0..600usize {
-        if len <= one.len() {
-            let (code, _text) = run(alloc, &["read", "bank", "0", "1"], &one[..len], &[], &[])?;
-            assert_eq!(rt; code, 3);
-        }
+        let (code, _text) = run(
+            alloc,
+            &["read", "bank", "0", "1"],
+            first_part(&one, len),
+            &[],
+            &[],
+        )?;
+        assert_eq!(rt; code, 3);
     }
     Ok(())
 }

@@ -1,4 +1,4 @@
-use Rattle.std.proofs.Common.{◌≡◌, ◌<◌, ◌++◌, ℕ, List, Ok, Err, subst, sym, codes, arith}
+use Rattle.std.proofs.Common.{ℕ, List, Err, subst, sym, codes, arith}
 use Rattle.hex.specs.Hex.{encode_lower}
 use Rattle.nor_bus.specs.Bus.{bank_bytes}
 use Rattle.norbank.specs.Says.{PutsText}

@@ -1,8 +1,8 @@
-use Rattle.std.proofs.Common.{◌≡◌, ◌≤◌, ◌^◌, ◌∙◌, ℕ, List, Some, inl, inr, subst, sym, ap, length, rules, refl}
+use Rattle.std.proofs.Common.{◌≡◌, ◌≤◌, ◌^◌, ℕ, List, Some, inl, inr, subst, sym, length, rules}
 use Rattle.nor_io.specs.Files.{Rose, IsTooLarge}
-use Rattle.norbank.specs.Endings.{Ending, ends, file_ending, found_ending}
+use Rattle.norbank.specs.Endings.{Ending, ends, file_ending}
 use Rattle.norbank.specs.Says.{Says, SaysOrLacks, Taken}
-use Rattle.norbank.specs.Text.{read_fault, line_of}
+use Rattle.norbank.specs.Text.{read_fault}
 use Rattle.norbank.proofs.FileEnds.{found_file, found_any, found_large, small_ending, large_ending}
 use Rattle.norbank.proofs.quiet.read_named.Goals as goal
 

@@ -1,6 +1,6 @@
-use Rattle.std.proofs.Common.{◌≡◌, ◌<◌, ◌≤◌, ◌+◌, ◌∙◌, ℕ, List, subst, sym, ap, arith}
+use Rattle.std.proofs.Common.{◌≡◌, ◌<◌, ◌≤◌, ◌+◌, ◌∙◌, ℕ, List, subst, sym, arith}
 use Rattle.nor_bus.specs.Bus.{bank_bytes, bank_size}
-use Rattle.norbank.specs.Endings.{Ending, ends}
+use Rattle.norbank.specs.Endings.{Ending}
 use Rattle.norbank.specs.Says.{Says, PutsText}
 use Rattle.norbank.specs.Text.{hex_line}
 use Rattle.norbank.proofs.BankBytes.{ends_silent, ends_outside, ends_inside, bank_words}

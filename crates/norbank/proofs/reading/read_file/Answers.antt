@@ -1,4 +1,4 @@
-use Rattle.std.proofs.Common.{◌≡◌, ℕ, inl, subst, sym}
+use Rattle.std.proofs.Common.{ℕ, inl, subst, sym}
 use Rattle.nor_bus.specs.Bus.{IsBank}
 use Rattle.nor_image.specs.Image.{device_of}
 use Rattle.nor_image.specs.Loaded.{bus_of, loaded_width}

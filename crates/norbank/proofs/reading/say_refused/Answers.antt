@@ -1,5 +1,4 @@
-use Rattle.std.proofs.Common.{◌≡◌, ◌∙◌, refl, codes, decimal}
-use Rattle.norbank.specs.declared.status.Status.{Status}
+use Rattle.std.proofs.Common.{◌∙◌, refl, codes, decimal}
 use Rattle.nor_image.specs.declared.error.ImageError.TheVariants.{BadHeader, Truncated, Trailing, SizeDiffers, NotBuilt}
 use Rattle.norbank.specs.Endings.{ends}
 use Rattle.norbank.specs.Text.{not_built}
