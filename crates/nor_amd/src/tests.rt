@@ -2,6 +2,7 @@ ghost use Rattle.std.specs.Prelude.{◌≡◌, ◌*◌, ◌<◌, ◌≤◌, IsTr
 ghost use Rattle.nor_cell.specs.Chip.{units};
 ghost use Rattle.nor_cell.specs.Ranges.{are_blocks, is_ascending_below, begin_units};
 
+mod boot;
 mod commands;
 mod faults;
 mod jobs;
@@ -23,16 +24,20 @@ const TABLE: [u8; 49] = [
     0x02,
 ];
 
-// Where the table tells the interface, and what may be done while an erase is suspended.
+// Where the table tells the interface, what may be done while an erase is suspended, and whether
+// there are locks.
 const INTERFACE: usize = 0x28;
 
-const SUSPEND_KIND: usize = 0x37;
+const SUSPEND_KIND: u8 = 0x37;
+
+const PROTECTION: u8 = 0x3A;
 
 // What a chip of a test is, beside its table and its cells, which are ones.
 #[derive(Clone, Copy)]
 struct Setup {
     device: Device,
-    suspend: u8,
+    // A place of the table, and another byte there.
+    other: Option<(u8, u8)>,
     has_blocks: bool,
     weak: Option<u32>,
     stuck: bool,
@@ -42,7 +47,7 @@ struct Setup {
 
 const PLAIN: Setup = Setup {
     device: Device::X16,
-    suspend: 2,
+    other: None,
     has_blocks: true,
     weak: None,
     stuck: false,
@@ -100,18 +105,26 @@ fn weak_places(
     }
 }
 
-// The table's interface number is that of the device.
-fn table(device: Device, suspend: u8) -> [u8; 512] {
+fn table_of(fields: &[u8]) -> [u8; 512]
+    requires { length fields.now ≤ 496 }
+{
     let mut table = [0; 512];
-    for (i, byte) in TABLE.iter().enumerate() {
+    for (i, byte) in fields.iter().enumerate() {
         table[0x10 + i] = *byte;
     }
-    table[INTERFACE] = match device {
+    table
+}
+
+fn table(setup: Setup) -> [u8; 512] {
+    let mut table = table_of(&TABLE);
+    table[INTERFACE] = match setup.device {
         Device::X8 => 0,
         Device::X16 => 1,
         Device::X16Byte => 2,
     };
-    table[SUSPEND_KIND] = suspend;
+    if let Some((place, byte)) = setup.other {
+        table[place as usize] = byte;
+    }
     table
 }
 
@@ -120,7 +133,7 @@ fn make_chip(rt: &impl Abort, alloc: Global, setup: Setup) -> Result<Amd, Fail> 
         alloc,
         CellParts {
             device: setup.device,
-            table: table(setup.device, setup.suspend),
+            table: table(setup),
             bytes: vec![in alloc; 0xFF; SIZE]?,
             weak: weak_places(rt, alloc, setup.device, setup.weak)?,
             stuck: setup.stuck,

@@ -1,6 +1,6 @@
 //! Each command, with its cycles right and with one of them wrong.
 use super::Cycle::{Counted, PowerOn, Read, Write};
-use super::{PLAIN, Setup, command, erase, load, make_chip, program, run};
+use super::{PLAIN, PROTECTION, Setup, command, erase, load, make_chip, program, run};
 use nor_cell::Device;
 use std::test::Fail;
 
@@ -207,6 +207,16 @@ fn locks_are_shown_and_set_in_their_mode(rt: HostRuntime) -> Result<(), Fail> {
     );
     command(&rt, &mut chip, 0x555, 0xE0);
     run(&rt, &mut chip, &[Read(0x400, 1)]);
+    let mut without = make_chip(
+        &rt,
+        rt.alloc(),
+        Setup {
+            other: Some((PROTECTION, 0)),
+            ..PLAIN
+        },
+    )?;
+    command(&rt, &mut without, 0x555, 0xE0);
+    run(&rt, &mut without, &[Read(0x400, 0xFFFF)]);
     Ok(())
 }
 

@@ -1,6 +1,6 @@
-//! Suspended erases, a stuck chip, losses of power, and a chip whose blocks differ in size.
+//! Suspended erases, a stuck chip, and losses of power.
 use super::Cycle::{Counted, Cut, PowerOn, Read, Write};
-use super::{PLAIN, Setup, command, erase, load, make_chip, program, run};
+use super::{PLAIN, SUSPEND_KIND, Setup, command, erase, load, make_chip, program, run};
 use std::test::Fail;
 
 #[test]
@@ -96,7 +96,7 @@ fn the_table_tells_what_a_suspend_allows(rt: HostRuntime) -> Result<(), Fail> {
         &rt,
         rt.alloc(),
         Setup {
-            suspend: 1,
+            other: Some((SUSPEND_KIND, 1)),
             ..PLAIN
         },
     )?;
@@ -118,7 +118,7 @@ fn the_table_tells_what_a_suspend_allows(rt: HostRuntime) -> Result<(), Fail> {
         &rt,
         rt.alloc(),
         Setup {
-            suspend: 3,
+            other: Some((SUSPEND_KIND, 3)),
             ..PLAIN
         },
     )?;
