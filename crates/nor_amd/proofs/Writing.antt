@@ -1,5 +1,5 @@
 -- A write changes neither what the chip is, nor its cells, nor how many locks there are.
-use Rattle.std.proofs.Common.{◌≡◌, ℕ, length-set, rules}
+use Rattle.std.proofs.Common.{ℕ, length-set, rules}
 use Rattle.nor_cell.specs.Chip.{ChipState, Mode, Step, Rest, Fault, Held}
 use Rattle.nor_cell.specs.Look.{resumed_from}
 use Rattle.nor_cell.specs.Amd.{array_steps, locks_steps, query_steps, mode_steps, abort_steps, fault_steps}

@@ -47,11 +47,10 @@ pub(crate) fn toggle(chip: &mut Machine, at: u32)
     requires { at < units chip.old }
     ensures { chip.new ≡ toggled at chip.old }
 {
-    let flips_2 = toggles_2(chip, at);
     if toggles_6(chip) {
         chip.toggle_6 = !chip.toggle_6;
     }
-    if flips_2 {
+    if toggles_2(chip, at) {
         chip.toggle_2 = !chip.toggle_2;
     }
 }
