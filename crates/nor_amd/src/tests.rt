@@ -151,6 +151,11 @@ fn make_chip(rt: &impl Abort, alloc: Global, setup: Setup) -> Result<Amd, Fail> 
 #[derive(Clone, Copy)]
 enum Cycle {
     Write(u32, u16),
+    // The two unlock cycles, and then a write.
+    Unlocked(u32, u16),
+    // A unit's program begins, and the erase of a unit's block.
+    Program(u32, u16),
+    Erase(u32),
     // A read, and what it shows.
     Read(u32, u16),
     Cut(u8),
@@ -159,7 +164,7 @@ enum Cycle {
     Counted(u32, u32),
 }
 
-use Cycle::{Counted, Cut, PowerOn, Read, Write};
+use Cycle::{Counted, Cut, Erase, PowerOn, Program, Read, Unlocked, Write};
 
 fn units_of(chip: &Amd) -> u32
     ensures { result ≡ units chip.now }
@@ -168,12 +173,29 @@ fn units_of(chip: &Amd) -> u32
     (cells.bytes.len() / unit_len(cells.device)) as u32
 }
 
+fn write(rt: &impl Abort, chip: &mut Amd, at: u32, value: u16) {
+    assert!(rt; at < units_of(chip));
+    chip.write(at, value);
+}
+
+fn write_unlocked(rt: &impl Abort, chip: &mut Amd, at: u32, value: u16) {
+    write(rt, chip, 0x555, 0xAA);
+    write(rt, chip, 0x2AA, 0x55);
+    write(rt, chip, at, value);
+}
+
 fn run(rt: &impl Abort, chip: &mut Amd, cycles: &[Cycle]) {
     for (i, cycle) in cycles.iter().enumerate() {
         match cycle {
-            Write(at, value) => {
-                assert!(rt; *at < units_of(chip));
-                chip.write(*at, *value);
+            Write(at, value) => write(rt, chip, *at, *value),
+            Unlocked(at, value) => write_unlocked(rt, chip, *at, *value),
+            Program(at, value) => {
+                write_unlocked(rt, chip, 0x555, 0xA0);
+                write(rt, chip, *at, *value);
+            }
+            Erase(at) => {
+                write_unlocked(rt, chip, 0x555, 0x80);
+                write_unlocked(rt, chip, *at, 0x30);
             }
             Read(at, want) => {
                 assert!(rt; *at < units_of(chip));
@@ -189,39 +211,19 @@ fn run(rt: &impl Abort, chip: &mut Amd, cycles: &[Cycle]) {
     }
 }
 
-// The two unlock cycles, and then a command at its address.
-fn command(rt: &impl Abort, chip: &mut Amd, at: u32, code: u16) {
-    run(
-        rt,
-        chip,
-        &[Write(0x555, 0xAA), Write(0x2AA, 0x55), Write(at, code)],
-    );
-}
-
-// A unit's program begins.
-fn program(rt: &impl Abort, chip: &mut Amd, at: u32, value: u16) {
-    command(rt, chip, 0x555, 0xA0);
-    run(rt, chip, &[Write(at, value)]);
-}
-
-// The erase of a unit's block begins.
-fn erase(rt: &impl Abort, chip: &mut Amd, at: u32) {
-    command(rt, chip, 0x555, 0x80);
-    command(rt, chip, at, 0x30);
-}
-
 // Four units from 0 on are loaded.
-fn load(rt: &impl Abort, chip: &mut Amd) {
-    command(rt, chip, 0, 0x25);
-    run(
-        rt,
-        chip,
-        &[
-            Write(0, 0x0003),
-            Write(0, 0x1111),
-            Write(1, 0x2222),
-            Write(2, 0x3333),
-            Write(3, 0x4444),
-        ],
-    );
+const LOAD: [Cycle; 6] = [
+    Unlocked(0, 0x25),
+    Write(0, 0x0003),
+    Write(0, 0x1111),
+    Write(1, 0x2222),
+    Write(2, 0x3333),
+    Write(3, 0x4444),
+];
+
+// A chip with this setup goes through these cycles.
+fn check(rt: &impl Abort, alloc: Global, setup: Setup, cycles: &[Cycle]) -> Result<(), Fail> {
+    let mut chip = make_chip(rt, alloc, setup)?;
+    run(rt, &mut chip, cycles);
+    Ok(())
 }

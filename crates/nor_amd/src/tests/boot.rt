@@ -2,8 +2,8 @@
 ghost use Rattle.std.specs.Prelude.{◌≡◌, ◌+◌, ◌*◌, ◌<◌, IsTrue, IfOk};
 ghost use Rattle.nor_cell.specs.Ranges.{are_blocks};
 
-use super::Cycle::{Read, Write};
-use super::{command, erase, program, run, table_of};
+use super::Cycle::{Erase, Program, Read, Unlocked, Write};
+use super::{run, table_of};
 use crate::Amd;
 use nor_cell::{CellParts, Device, Span, make_cells};
 use std::alloc::{AllocError, Global};
@@ -81,11 +81,12 @@ fn make_boot_chip(alloc: Global) -> Result<Amd, AllocError> {
 #[test]
 fn each_block_by_its_own_size(rt: HostRuntime) -> Result<(), Fail> {
     let mut chip = make_boot_chip(rt.alloc())?;
-    command(&rt, &mut chip, 0x555, 0xE0);
     run(
         &rt,
         &mut chip,
         &[
+            // the first of the small blocks is locked
+            Unlocked(0x555, 0xE0),
             Write(0, 0xA0),
             Write(0x620, 0x00),
             Read(0x5FF, 1),
@@ -94,25 +95,16 @@ fn each_block_by_its_own_size(rt: HostRuntime) -> Result<(), Fail> {
             Read(0x640, 1),
             Write(0, 0x90),
             Write(0, 0x00),
-        ],
-    );
-    program(&rt, &mut chip, 0x640, 0x1234);
-    run(
-        &rt,
-        &mut chip,
-        &[Read(0, 0xC0), Read(0, 0x80), Read(0x640, 0x1234)],
-    );
-    program(&rt, &mut chip, 0x7FF, 0x5678);
-    run(
-        &rt,
-        &mut chip,
-        &[Read(0, 0xC0), Read(0, 0x80), Read(0x7FF, 0x5678)],
-    );
-    erase(&rt, &mut chip, 0x67F);
-    run(
-        &rt,
-        &mut chip,
-        &[
+            // the second one is erased, and the last stays
+            Program(0x640, 0x1234),
+            Read(0, 0xC0),
+            Read(0, 0x80),
+            Read(0x640, 0x1234),
+            Program(0x7FF, 0x5678),
+            Read(0, 0xC0),
+            Read(0, 0x80),
+            Read(0x7FF, 0x5678),
+            Erase(0x67F),
             Read(0, 0x4C),
             Read(0, 0x08),
             Read(0, 0x4C),

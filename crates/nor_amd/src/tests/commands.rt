@@ -1,6 +1,6 @@
 //! Each command, with its cycles right and with one of them wrong.
-use super::Cycle::{Counted, PowerOn, Read, Write};
-use super::{PLAIN, PROTECTION, Setup, command, erase, load, make_chip, program, run};
+use super::Cycle::{Counted, Erase, PowerOn, Program, Read, Unlocked, Write};
+use super::{LOAD, PLAIN, PROTECTION, Setup, check, make_chip, run};
 use nor_cell::Device;
 use std::test::Fail;
 
@@ -47,11 +47,15 @@ fn a_program_needs_each_of_its_cycles(rt: HostRuntime) -> Result<(), Fail> {
 #[test]
 fn an_erase_needs_each_of_its_cycles(rt: HostRuntime) -> Result<(), Fail> {
     let mut chip = make_chip(&rt, rt.alloc(), PLAIN)?;
-    program(&rt, &mut chip, 0x200, 0x0F0F);
     run(
         &rt,
         &mut chip,
-        &[Read(0, 0xC0), Read(0, 0x80), Read(0x200, 0x0F0F)],
+        &[
+            Program(0x200, 0x0F0F),
+            Read(0, 0xC0),
+            Read(0, 0x80),
+            Read(0x200, 0x0F0F),
+        ],
     );
     for [setup, first, second, last] in [
         [(0x554, 0x80), (0x555, 0xAA), (0x2AA, 0x55), (0x200, 0x30)],
@@ -62,11 +66,11 @@ fn an_erase_needs_each_of_its_cycles(rt: HostRuntime) -> Result<(), Fail> {
         [(0x555, 0x80), (0x555, 0xAA), (0x2AA, 0x54), (0x200, 0x30)],
         [(0x555, 0x80), (0x555, 0xAA), (0x2AA, 0x55), (0x200, 0x31)],
     ] {
-        command(&rt, &mut chip, setup.0, setup.1);
         run(
             &rt,
             &mut chip,
             &[
+                Unlocked(setup.0, setup.1),
                 Write(first.0, first.1),
                 Write(second.0, second.1),
                 Write(last.0, last.1),
@@ -75,11 +79,11 @@ fn an_erase_needs_each_of_its_cycles(rt: HostRuntime) -> Result<(), Fail> {
             ],
         );
     }
-    erase(&rt, &mut chip, 0x3FF);
     run(
         &rt,
         &mut chip,
         &[
+            Erase(0x3FF),
             Read(0x200, 0x4C),
             Read(0x200, 0x08),
             Read(0x200, 0x4C),
@@ -95,9 +99,12 @@ fn an_erase_needs_each_of_its_cycles(rt: HostRuntime) -> Result<(), Fail> {
 fn a_buffer_load_shows_the_complement_of_its_last_unit(rt: HostRuntime) -> Result<(), Fail> {
     let mut chip = make_chip(&rt, rt.alloc(), PLAIN)?;
     // another code, and then no load
-    command(&rt, &mut chip, 0, 0x24);
-    run(&rt, &mut chip, &[Write(0, 16), Read(0, 0xFFFF)]);
-    load(&rt, &mut chip);
+    run(
+        &rt,
+        &mut chip,
+        &[Unlocked(0, 0x24), Write(0, 16), Read(0, 0xFFFF)],
+    );
+    run(&rt, &mut chip, &LOAD);
     run(
         &rt,
         &mut chip,
@@ -111,14 +118,8 @@ fn a_buffer_load_shows_the_complement_of_its_last_unit(rt: HostRuntime) -> Resul
             Read(2, 0x3333),
             Read(3, 0x4444),
             Read(4, 0xFFFF),
-        ],
-    );
-    // the count may go anywhere, and so may the last cycle
-    command(&rt, &mut chip, 0x3FF, 0x25);
-    run(
-        &rt,
-        &mut chip,
-        &[
+            // the count may go anywhere, and so may the last cycle
+            Unlocked(0x3FF, 0x25),
             Write(0, 1),
             Write(0x20E, 0x0000),
             Write(0x20F, 0x0080),
@@ -135,16 +136,16 @@ fn a_buffer_load_shows_the_complement_of_its_last_unit(rt: HostRuntime) -> Resul
 
 #[test]
 fn locks_are_shown_and_set_in_their_mode(rt: HostRuntime) -> Result<(), Fail> {
-    let mut chip = make_chip(&rt, rt.alloc(), PLAIN)?;
-    command(&rt, &mut chip, 0x554, 0xE0);
-    run(&rt, &mut chip, &[Read(0, 0xFFFF)]);
-    command(&rt, &mut chip, 0x555, 0xE1);
-    run(&rt, &mut chip, &[Read(0, 0xFFFF)]);
-    command(&rt, &mut chip, 0x555, 0xE0);
-    run(
+    check(
         &rt,
-        &mut chip,
+        rt.alloc(),
+        PLAIN,
         &[
+            Unlocked(0x554, 0xE0),
+            Read(0, 0xFFFF),
+            Unlocked(0x555, 0xE1),
+            Read(0, 0xFFFF),
+            Unlocked(0x555, 0xE0),
             Read(0x200, 1),
             // block 1 is locked
             Write(0, 0xA0),
@@ -160,6 +161,10 @@ fn locks_are_shown_and_set_in_their_mode(rt: HostRuntime) -> Result<(), Fail> {
             Write(0x400, 0x02),
             Write(0x400, 0x00),
             Read(0x400, 1),
+            // and unlocked
+            Write(0, 0xA0),
+            Write(0x200, 0x01),
+            Read(0x200, 1),
             // the mode isn't left by these
             Write(0, 0x91),
             Write(0, 0x00),
@@ -172,60 +177,54 @@ fn locks_are_shown_and_set_in_their_mode(rt: HostRuntime) -> Result<(), Fail> {
             Write(0, 0x00),
             Read(0, 0xFFFF),
         ],
-    );
-    // the locked block is neither programmed nor erased, and nothing tells it
-    program(&rt, &mut chip, 0x200, 0x0000);
-    run(&rt, &mut chip, &[Read(0x200, 0xFFFF)]);
-    command(&rt, &mut chip, 0x200, 0x25);
-    run(
+    )
+}
+
+#[test]
+fn a_locked_block_is_left_alone_until_power_is_lost(rt: HostRuntime) -> Result<(), Fail> {
+    check(
         &rt,
-        &mut chip,
+        rt.alloc(),
+        PLAIN,
         &[
+            Unlocked(0x555, 0xE0),
+            Write(0, 0xA0),
+            Write(0x200, 0x00),
+            Write(0, 0x90),
+            Write(0, 0x00),
+            Program(0x200, 0x0000),
+            Read(0x200, 0xFFFF),
+            Unlocked(0x200, 0x25),
             Write(0, 0),
             Write(0x200, 0x0000),
             Write(0, 0x29),
             Read(0x200, 0xFFFF),
-        ],
-    );
-    erase(&rt, &mut chip, 0x200);
-    run(&rt, &mut chip, &[Read(0x200, 0xFFFF), Counted(0, 0)]);
-    command(&rt, &mut chip, 0x555, 0xE0);
-    run(
-        &rt,
-        &mut chip,
-        &[
-            Write(0, 0xA0),
-            Write(0x200, 0x01),
-            Read(0x200, 1),
-            // a loss of power clears all locks
-            Write(0, 0xA0),
-            Write(0x400, 0x00),
-            Read(0x400, 0),
+            Erase(0x200),
+            Read(0x200, 0xFFFF),
+            Counted(0, 0),
             PowerOn,
-            Read(0x400, 0xFFFF),
+            Unlocked(0x555, 0xE0),
+            Read(0x200, 1),
         ],
-    );
-    command(&rt, &mut chip, 0x555, 0xE0);
-    run(&rt, &mut chip, &[Read(0x400, 1)]);
-    let mut without = make_chip(
+    )?;
+    // a table without locks
+    check(
         &rt,
         rt.alloc(),
         Setup {
             other: Some((PROTECTION, 0)),
             ..PLAIN
         },
-    )?;
-    command(&rt, &mut without, 0x555, 0xE0);
-    run(&rt, &mut without, &[Read(0x400, 0xFFFF)]);
-    Ok(())
+        &[Unlocked(0x555, 0xE0), Read(0x400, 0xFFFF)],
+    )
 }
 
 #[test]
 fn the_query_table_at_its_address(rt: HostRuntime) -> Result<(), Fail> {
-    let mut chip = make_chip(&rt, rt.alloc(), PLAIN)?;
-    run(
+    check(
         &rt,
-        &mut chip,
+        rt.alloc(),
+        PLAIN,
         &[
             Write(0x54, 0x98),
             Read(0x10, 0xFFFF),
@@ -247,25 +246,20 @@ fn the_query_table_at_its_address(rt: HostRuntime) -> Result<(), Fail> {
             Write(0x555, 0x90),
             Read(0x10, 0xFFFF),
         ],
-    );
-    Ok(())
+    )
 }
 
 #[test]
-fn eight_wires_a_byte_mode_and_a_chip_without_blocks(rt: HostRuntime) -> Result<(), Fail> {
-    let mut narrow = make_chip(
+fn eight_wires_and_a_chip_without_blocks(rt: HostRuntime) -> Result<(), Fail> {
+    check(
         &rt,
         rt.alloc(),
         Setup {
             device: Device::X8,
             ..PLAIN
         },
-    )?;
-    program(&rt, &mut narrow, 0x401, 0xFF7F);
-    run(
-        &rt,
-        &mut narrow,
         &[
+            Program(0x401, 0xFF7F),
             Read(0, 0xC0),
             Read(0, 0x80),
             Read(0x401, 0x7F),
@@ -274,21 +268,42 @@ fn eight_wires_a_byte_mode_and_a_chip_without_blocks(rt: HostRuntime) -> Result<
             Read(0x11, 0x52),
             Read(0x28, 0),
         ],
-    );
-    let mut byte_mode = make_chip(
+    )?;
+    check(
+        &rt,
+        rt.alloc(),
+        Setup {
+            has_blocks: false,
+            ..PLAIN
+        },
+        &[
+            Program(0, 0x0000),
+            Read(0, 0xFFFF),
+            Erase(0),
+            Read(0, 0xFFFF),
+            Counted(0, 0),
+            Unlocked(0x555, 0xE0),
+            Read(0, 0xFFFF),
+            Write(0x55, 0x98),
+            Read(0x10, 0x51),
+            Write(0, 0xF0),
+            Read(0x10, 0xFFFF),
+        ],
+    )
+}
+
+#[test]
+fn a_byte_mode_has_addresses_of_its_own(rt: HostRuntime) -> Result<(), Fail> {
+    check(
         &rt,
         rt.alloc(),
         Setup {
             device: Device::X16Byte,
             ..PLAIN
         },
-    )?;
-    program(&rt, &mut byte_mode, 0x10, 0x1234);
-    run(
-        &rt,
-        &mut byte_mode,
         &[
-            // the addresses of the other wirings do nothing
+            // those of the other wirings do nothing
+            Program(0x10, 0x1234),
             Read(0x10, 0xFF),
             Write(0x55, 0x98),
             Read(0x20, 0xFF),
@@ -312,6 +327,7 @@ fn eight_wires_a_byte_mode_and_a_chip_without_blocks(rt: HostRuntime) -> Result<
             Write(0, 0x25),
             Write(0, 16),
             Read(0, 0xFF),
+            // an erase begins
             Write(0xAAA, 0xAA),
             Write(0x555, 0x55),
             Write(0xAAA, 0x80),
@@ -319,35 +335,6 @@ fn eight_wires_a_byte_mode_and_a_chip_without_blocks(rt: HostRuntime) -> Result<
             Write(0x555, 0x55),
             Write(0, 0x30),
             Read(0, 0x4C),
-            Read(0, 0x08),
-            Read(0, 0x4C),
-            Read(0, 0x08),
-            Read(0x10, 0xFF),
         ],
-    );
-    let mut bare = make_chip(
-        &rt,
-        rt.alloc(),
-        Setup {
-            has_blocks: false,
-            ..PLAIN
-        },
-    )?;
-    program(&rt, &mut bare, 0, 0x0000);
-    run(&rt, &mut bare, &[Read(0, 0xFFFF)]);
-    erase(&rt, &mut bare, 0);
-    run(&rt, &mut bare, &[Read(0, 0xFFFF), Counted(0, 0)]);
-    command(&rt, &mut bare, 0x555, 0xE0);
-    run(
-        &rt,
-        &mut bare,
-        &[
-            Read(0, 0xFFFF),
-            Write(0x55, 0x98),
-            Read(0x10, 0x51),
-            Write(0, 0xF0),
-            Read(0x10, 0xFFFF),
-        ],
-    );
-    Ok(())
+    )
 }
