@@ -25,7 +25,7 @@ fn lanes_read<W: BusWord>(word: W, g: Geometry, letter: u8) -> bool
 }
 
 /// The bus address of a word of the query table.
-fn query_address(device: Device, n: u32) -> u32
+pub fn query_address(device: Device, n: u32) -> u32
     requires { n < 512 }
     ensures value { result ≡ query_address_lem device n }
     ensures low { result < 1024 }
