@@ -17,12 +17,16 @@ use Rattle.nor_probe.specs.declared.probing.Found.{Found}
 unfoldable pub shown_table : ChipState → List ℕ
 shown_table s = replicate 16 0 ++ drop 16 s.part.table
 
+-- a query table begins with `QRY`
+pub record HasQry (table : List ℕ) : Type 0 where
+  pub q : field_8 table 0x10 ≡ 0x51
+  pub r : field_8 table 0x11 ≡ 0x52
+  pub y : field_8 table 0x12 ≡ 0x59
+
 -- A chip's table begins with `QRY` and names the chip's set and size. Where it offers no locks, no block is locked.
 pub record IsAsItsTable (s : ChipState) : Type 0 where
   pub chip : IsChip s
-  pub q : field_8 s.part.table 0x10 ≡ 0x51
-  pub r : field_8 s.part.table 0x11 ≡ 0x52
-  pub y : field_8 s.part.table 0x12 ≡ 0x59
+  pub qry : HasQry s.part.table
   pub set : s.part.set ≡ set_of s.part.table
   pub size : length s.cells ≡ 2 ^ field_8 s.part.table 0x27
   pub unlocked : has_locks s.part.table ≡ false → (b : ℕ) → is_locked s b ≡ false

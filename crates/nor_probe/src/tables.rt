@@ -58,7 +58,7 @@ fn known_byte(device: Device, offset: u16) -> Option<u8>
         0x10 => Some(b'Q'),
         0x11 => Some(b'R'),
         0x12 => Some(b'Y'),
-        _ if query_address(device, u32::from(offset)) < FIRST_SHOWN => Some(0),
+        _ if query_address(device, offset) < FIRST_SHOWN => Some(0),
         _ => None,
     }
 }
@@ -83,7 +83,7 @@ fn byte_at<W: BusWord, B: Bus<W>>(
     if let Some(byte) = known_byte(g.device, offset) {
         return Ok(Ok(byte));
     }
-    let word = read_query::<W, B>(bus, query_address(g.device, u32::from(offset)))?;
+    let word = read_query::<W, B>(bus, query_address(g.device, offset))?;
     Ok(common_byte(word, g, offset))
 }
 
