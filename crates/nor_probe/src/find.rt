@@ -1,9 +1,10 @@
-ghost use Rattle.std.specs.Prelude.{◌≡◌, ◌≢◌, ◌<◌, IfOk, OnOk, OnErr, Some, None, Err, IsTrue};
+ghost use Rattle.std.specs.Prelude.{◌≡◌, ◌≢◌, ◌<◌, IfOk, IfSome, OnOk, OnErr, OnSome, Some, None, Err, IsTrue};
 ghost use Rattle.nor_cell.specs.Resting.{IsResting};
 ghost use Rattle.nor_cell.specs.Wiring.{is_wiring};
 ghost use Rattle.nor_bus.specs.Bus.{units_of};
 ghost use Rattle.nor_bus.specs.Driven.{Went, Lost, EachLane, AllLanes};
-ghost use Rattle.nor_probe.specs.Asking.{Resets, Rests};
+ghost use Rattle.nor_probe.specs.Asking.{Resets, Asks, Rests};
+ghost use Rattle.nor_probe.specs.Counted.{Counted};
 ghost use Rattle.nor_probe.specs.Found.{shows_qry as shows_qry_lem, found_geometry};
 ghost use Rattle.nor_probe.specs.declared.find.FindError.TheVariants.{NoAnswer, Off as LostPower};
 
@@ -35,7 +36,7 @@ impl From<Off> for FindError {
 fn try_wiring<W: BusWord, B: Bus<W>>(bus: &mut B, g: Geometry) -> Result<bool, Off>
     requires { IsTrue (is_wiring W.WIDTH g.lanes g.device) }
     ensures went { OnOk result (Went 7 7 (B.state bus.old) (B.state bus.new)) }
-    ensures lanes { OnOk result (EachLane Rests (B.state bus.old) (B.state bus.new)) }
+    ensures lanes { OnOk result (EachLane Asks (B.state bus.old) (B.state bus.new)) }
     ensures shows { IfOk result (λ shows. AllLanes IsResting (B.state bus.old) → shows ≡ shows_qry_lem g (B.state bus.old).lanes) }
     ensures lost { OnErr result (Lost 7 (B.state bus.old) (B.state bus.new)) }
     ensures units { units_of (B.state bus.new) ≡ units_of (B.state bus.old) }
@@ -45,10 +46,13 @@ fn try_wiring<W: BusWord, B: Bus<W>>(bus: &mut B, g: Geometry) -> Result<bool, O
     Ok(shows)
 }
 
-/// The first wiring that the chips answer to, if there is one. At most 21 cycles.
-fn answering<W: BusWord, B: Bus<W>>(bus: &mut B) -> Result<Option<Geometry>, Off>
-    ensures went { OnOk result (Went 0 21 (B.state bus.old) (B.state bus.new)) }
+/// The first wiring that the chips answer to, if there is one; they show their query tables then. At
+/// most 21 cycles.
+pub fn answering<W: BusWord, B: Bus<W>>(bus: &mut B) -> Result<Option<Geometry>, Off>
+    ensures counted { OnOk result (Counted 21 (B.state bus.old) (B.state bus.new)) }
     ensures lanes { OnOk result (EachLane Rests (B.state bus.old) (B.state bus.new)) }
+    ensures asked { IfOk result (λ found. OnSome found (EachLane Asks (B.state bus.old) (B.state bus.new))) }
+    ensures wiring { IfOk result (λ found. IfSome found (λ g. IsTrue (is_wiring W.WIDTH g.lanes g.device))) }
     ensures found { IfOk result (λ found. AllLanes IsResting (B.state bus.old) → found ≡ found_geometry W.WIDTH (B.state bus.old).lanes) }
     ensures lost { OnErr result (Lost 21 (B.state bus.old) (B.state bus.new)) }
     ensures units { units_of (B.state bus.new) ≡ units_of (B.state bus.old) }
