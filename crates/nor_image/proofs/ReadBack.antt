@@ -1,7 +1,7 @@
 -- What the fields of a record say where a written record stands.
 use Rattle.std.proofs.Common.{◌≡◌, ◌<◌, ◌≤◌, ℕ, ◌+◌, ◌*◌, ◌^◌, zero, suc, List, [], ◌∷◌, ◌++◌, length, take, slice_index, All, get_or, Bool, if◌then◌else◌, refl, sym, ap, subst, ◌∙◌, arith, add-one}
 use Rattle.std.proofs.lemmas.List.{length-append, take_more, take_all}
-use Rattle.std.specs.Int.{w16, w32, to_le_bytes}
+use Rattle.std.specs.Int.{w16, w32, to_le_bytes, from_bool}
 use Rattle.nor_cell.specs.Chip.{Part}
 use Rattle.nor_io.specs.Fields.{u16_at, u32_at}
 use Rattle.nor_image.specs.Image.{bytes_at, weak_count, table_in, size_in, weak_in, weak_field_at, cells_at, record_end}
@@ -24,7 +24,7 @@ pub record SaysKept (file : List ℕ) (at : ℕ) (part : Part) (cells : List ℕ
   pub pace_program : u32_at file at ≡ part.pace_program
   pub pace_erase : u32_at file (at + 4) ≡ part.pace_erase
   pub pace_suspend : slice_index file (at + 8) ≡ part.pace_suspend
-  pub stuck : slice_index file (at + 9) ≡ (if part.stuck then 1 else 0)
+  pub stuck : slice_index file (at + 9) ≡ from_bool part.stuck
   pub count : weak_count file at ≡ length part.weak
   pub suspends_are : u32_at file (at + 12) ≡ suspends
   pub erases_are : u32_at file (at + 16) ≡ erases
@@ -37,13 +37,19 @@ pub record SaysKept (file : List ℕ) (at : ℕ) (part : Part) (cells : List ℕ
   -- where the record ends
   pub long : record_end file at ≡ at + length (kept_bytes part cells suspends erases)
 
-length-place_bytes : (places : List ℕ) → length (place_bytes places) ≡ 4 * length places
+-- how many bytes places have
+pub length-place_bytes : (places : List ℕ) → length (place_bytes places) ≡ 4 * length places
 length-place_bytes [] = refl
 length-place_bytes (p ∷ ps) = length-append (to_le_bytes w32 p) (place_bytes ps) ∙ (let rest = length-place_bytes ps in omega arith)
+
+-- how many bytes a record begins with
+pub length-number_bytes : (part : Part) (suspends erases : ℕ) → length (number_bytes part suspends erases) ≡ 20
+length-number_bytes part suspends erases = refl
 
 -- how long a record is
 pub length-kept_bytes : (part : Part) (cells : List ℕ) (suspends erases : ℕ) → length part.table ≡ 512
     → length (kept_bytes part cells suspends erases) ≡ 536 + 4 * length part.weak + length cells
+unfolding kept_bytes
 length-kept_bytes part cells suspends erases table =
     let numbers = number_bytes part suspends erases in
     let size = to_le_bytes w32 (length cells) in
@@ -78,10 +84,11 @@ weak_there file at places (suc k) stand fit few =
 -- a written record is read back
 pub kept_says : (file : List ℕ) (at : ℕ) (part : Part) (cells : List ℕ) (suspends erases : ℕ) → FitsFields part cells suspends erases
     → Stand file at (kept_bytes part cells suspends erases) → SaysKept file at part cells suspends erases
+unfolding kept_bytes
 kept_says file at part cells suspends erases fit stand =
     let a = to_le_bytes w32 part.pace_program in
     let b = to_le_bytes w32 part.pace_erase in
-    let c : List ℕ = part.pace_suspend ∷ (if part.stuck then 1 else 0) ∷ [] in
+    let c : List ℕ = part.pace_suspend ∷ from_bool part.stuck ∷ [] in
     let d = to_le_bytes w16 (length part.weak) in
     let e = to_le_bytes w32 suspends in
     let f = to_le_bytes w32 erases in

@@ -1,6 +1,7 @@
 -- No field of a written record is refused.
 use Rattle.std.proofs.Common.{◌≡◌, ◌<◌, ◌≤◌, ℕ, ◌+◌, ◌*◌, ◌%◌, ◌^◌, zero, suc, List, [], ◌∷◌, ◌++◌, length, take, slice_index, All, get_or, Bool, true, false, IsTrue, ◌==◌, ◌&&◌, nat_lt, nat_le, if◌then◌else◌, Option, Some, None, refl, sym, ap, subst, ◌∙◌, arith}
 use Rattle.std.proofs.lemmas.Bool.Decides.{nat_tests}
+use Rattle.std.specs.Int.{from_bool}
 use Rattle.std.specs.List.{list_all}
 use Rattle.nor_cell.specs.Bits.{unit_len}
 use Rattle.nor_cell.specs.Chip.{Part}
@@ -88,7 +89,7 @@ all_weak_right file at n (suc k) right few =
     goes_on file (weak_fields file at k) (weak_field file at k ∷ []) (all_weak_right file at n k right (omega arith)) ∙ or_none (refusal_of file (weak_field file at k)) None (right k (omega arith))
 
 -- a byte that says yes or no
-bit_right : (b : Bool) → nat_le (if b then 1 else 0) 1 ≡ true
+bit_right : (b : Bool) → nat_le (from_bool b) 1 ≡ true
 bit_right true = refl
 bit_right false = refl
 

@@ -1,6 +1,6 @@
 -- The file of a bank, byte by byte. Numbers are little-endian.
 use Rattle.std.specs.Prelude.{◌≡◌, ◌<◌, ◌+◌, ℕ, List, [], ◌∷◌, ◌++◌, length, take, codes, Bool, if◌then◌else◌, IsTrue}
-use Rattle.std.specs.Int.{w16, w32, to_le_bytes}
+use Rattle.std.specs.Int.{w16, w32, to_le_bytes, from_bool}
 use Rattle.std.specs.List.{flat_map}
 use Rattle.nor_cell.specs.Chip.{ChipState, Part}
 use Rattle.nor_cell.specs.Table.{set_of}
@@ -23,14 +23,14 @@ header_bytes width device lanes = codes "NORBANK1" ++ width ∷ code_of_device d
 abbrev pub number_bytes : Part → (suspends erases : ℕ) → List ℕ
 number_bytes part suspends erases =
     to_le_bytes w32 part.pace_program ++ to_le_bytes w32 part.pace_erase
-    ++ (part.pace_suspend ∷ (if part.stuck then 1 else 0) ∷ [])
+    ++ (part.pace_suspend ∷ from_bool part.stuck ∷ [])
     ++ to_le_bytes w16 (length part.weak) ++ to_le_bytes w32 suspends ++ to_le_bytes w32 erases
 
 abbrev pub place_bytes : List ℕ → List ℕ
 place_bytes places = flat_map (to_le_bytes w32) places
 
 -- all that a chip keeps without power: these numbers, its query table, its size, its weak places and its cells
-abbrev pub kept_bytes : Part → (cells : List ℕ) → (suspends erases : ℕ) → List ℕ
+unfoldable pub kept_bytes : Part → (cells : List ℕ) → (suspends erases : ℕ) → List ℕ
 kept_bytes part cells suspends erases =
     number_bytes part suspends erases ++ part.table ++ to_le_bytes w32 (length cells) ++ place_bytes part.weak ++ cells
 
