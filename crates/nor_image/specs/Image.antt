@@ -16,7 +16,7 @@ use Rattle.nor_bus.specs.Bus.{chip_at, no_chip}
 use Rattle.nor_io.specs.Fields.{u16_at, u32_at}
 use Rattle.nor_query.specs.Derived.{table_blocks}
 use Rattle.nor_image.specs.declared.error.ImageError.{ImageError}
-use Rattle.nor_image.specs.declared.error.ImageError.TheVariants.{BadMagic, BadHeader, Truncated, Trailing, SizeDiffers, NotBuilt, NoMemory}
+use Rattle.nor_image.specs.declared.error.ImageError.TheVariants.{BadMagic, BadHeader, Truncated, Trailing, SizeDiffers, NoMemory}
 
 -- ---- what the header says
 
@@ -228,5 +228,4 @@ pub record IsImageOf (file : List ℕ) (width : ℕ) (chips : List ChipState) : 
 -- Why an error comes: want of memory has no cause in the file.
 abbrev pub IsCause : List ℕ → ImageError → Type 0
 IsCause file NoMemory = Unit {0}
-IsCause file NotBuilt = (image_refusal file ≡ None) × (machine_of file ≡ Amd)
 IsCause file error = image_refusal file ≡ Some error

@@ -2,7 +2,7 @@ use Rattle.std.proofs.Common.{rules, ◌≡◌, ◌≢◌, ◌+◌, ◌*◌, ℕ
 use Rattle.nor_cell.specs.Bits.{AreBytes}
 use Rattle.nor_cell.specs.declared.device.Span.{Span}
 use Rattle.nor_query.specs.Derived.{table_blocks}
-use Rattle.nor_image.specs.Image.{record_fields, weak_fields, weak_in, first_refusal, weak_count, size_in, cells_at, bytes_at}
+use Rattle.nor_image.specs.Image.{record_fields, weak_fields, weak_in, first_refusal, weak_count, size_in, cells_at, bytes_at, is_size_by}
 use Rattle.nor_image.specs.Reading.{IsRefusal}
 use Rattle.nor_image.specs.declared.error.ImageError.TheVariants.{NoMemory}
 use Rattle.nor_image.proofs.Records.{IsMade, chip_made, in_numbers, in_table, in_size, in_weak, in_cells}
@@ -92,6 +92,7 @@ returns c =
         weak = ap length made.weak ∙ (c.in_ok-weak.ensures.count ∙ numbers.weak_count);
         size = ap length made.bytes ∙ (c.in_ok-bytes.ensures.size ∙ size);
         bytes = subst AreBytes (sym made.bytes) c.in_ok-bytes.ensures.bytes;
+        fits = (λ i. is_size_by (made.table i) ((ap length made.bytes ∙ c.in_ok-bytes.ensures.size) i)) ∙ c.in_ok-size.ensures.fits;
         same = ap length made.bytes ∙ (c.in_ok-bytes.ensures.size ∙ c.in_ok-size.ensures.same);
         whole = omega arith;
       },
