@@ -1,5 +1,5 @@
 -- Records that are read one after another.
-use Rattle.std.proofs.Common.{◌≡◌, ◌≢◌, ◌<◌, ◌≤◌, ◌⊎◌, inl, inr, ◌+◌, ◌*◌, ℕ, zero, suc, List, [], ◌∷◌, ◌++◌, length, map, true, false, nat_lt, refl, sym, ap, subst, ◌∙◌, arith, add-one, Some, None}
+use Rattle.std.proofs.Common.{◌≡◌, ◌≢◌, ◌<◌, ◌≤◌, ◌⊎◌, inl, inr, ◌+◌, ◌*◌, ℕ, zero, suc, List, [], ◌∷◌, ◌++◌, length, map, IsTrue, true, false, nat_lt, refl, sym, ap, subst, ◌∙◌, arith, add-one, Some, None}
 use Rattle.std.proofs.Math.ListN.{get_or-append}
 use Rattle.std.proofs.Math.Seq.{get_or-append_seam}
 use Rattle.std.proofs.lemmas.Bool.{cases_eq}
@@ -12,7 +12,7 @@ use Rattle.nor_cell.specs.Power.{powered}
 use Rattle.nor_cell.specs.declared.cells.Cells.{Cells}
 use Rattle.nor_cell.specs.declared.device.Set.{Set}
 use Rattle.nor_bus.specs.Bus.{chip_at, no_chip}
-use Rattle.nor_image.specs.Image.{first_refusal, record_fields, fields_before, header_fields, record_place, record_end, lanes_of_file, device_of, size_in, chip_in, trailing, image_refusal}
+use Rattle.nor_image.specs.Image.{first_refusal, record_fields, fields_before, header_fields, record_place, record_end, lanes_of_file, device_of, size_in, chip_in, trailing, image_refusal, is_size_by}
 use Rattle.nor_image.specs.Reading.{AreStored, AreChips, chips_of}
 use Rattle.nor_image.specs.declared.error.ImageError.{ImageError}
 use Rattle.nor_image.specs.declared.error.ImageError.TheVariants.{Trailing}
@@ -31,12 +31,14 @@ pushed n c P xs x long before here below (inr apart) =
 
 -- one more chip
 chips_pushed : (file : List ℕ) (set : Set) (n : ℕ) (xs : List ChipState) (x : ChipState) → AreChips file set n xs
-    → x ≡ chip_in file set (device_of file) (record_place file n) → length x.cells ≡ size_in file 12 → AreBytes x.cells → AreChips file set (n + 1) (xs ++ x ∷ [])
-chips_pushed file set n xs x so is size bytes = record {
+    → x ≡ chip_in file set (device_of file) (record_place file n) → length x.cells ≡ size_in file 12 → AreBytes x.cells
+    → IsTrue (is_size_by x.part.table (length x.cells)) → AreChips file set (n + 1) (xs ++ x ∷ [])
+chips_pushed file set n xs x so is size bytes fits = record {
   count = length-append xs (x ∷ []) ∙ (let long = so.count in omega arith);
   each = λ c below. pushed n c (λ k s. s ≡ chip_in file set (device_of file) (record_place file k)) xs x so.count (so.each c) is below (cases_eq c n);
   sizes = λ c below. pushed n c (λ k s. length s.cells ≡ size_in file 12) xs x so.count (so.sizes c) size below (cases_eq c n);
   bytes = λ c below. pushed n c (λ k s. AreBytes s.cells) xs x so.count (so.bytes c) bytes below (cases_eq c n);
+  fits = λ c below. pushed n c (λ k s. IsTrue (is_size_by s.part.table (length s.cells))) xs x so.count (so.fits c) fits below (cases_eq c n);
 }
 
 -- the first n records were read, and none of their fields refused; the next one begins at a place
@@ -60,7 +62,7 @@ lanes_more file n at next lanes more cells so right stored further pushed =
     λ set. stored.chip set ∙ ap (chip_in file set (device_of file)) so.at_is in
     let chips : (set : Set) → AreChips file set (n + 1) (chips_of set more) = λ set.
     subst (λ (xs : List ChipState). AreChips file set (n + 1) xs) (sym (ap (map (f set)) pushed ∙ map-append (f set) lanes (cells ∷ [])))
-    (chips_pushed file set n (chips_of set lanes) (powered (chip_of set cells)) (so.chips set) (chip set) stored.same stored.bytes) in
+    (chips_pushed file set n (chips_of set lanes) (powered (chip_of set cells)) (so.chips set) (chip set) stored.same stored.bytes stored.fits) in
     let right' : first_refusal file (record_fields file n (record_place file n)) ≡ None = subst (λ (p : ℕ). first_refusal file (record_fields file n p) ≡ None) so.at_is right in
     record {
       at_is = end ∙ (ap (record_end file) so.at_is ∙ ap (record_place file) (sym (add-one n)));
@@ -96,7 +98,7 @@ goes_further file end h =
     rw longer refl
 
 -- the file ends there
-ends : (file : List ℕ) (end : ℕ) → length file ≤ end → trailing file end ≡ None
+pub ends : (file : List ℕ) (end : ℕ) → length file ≤ end → trailing file end ≡ None
 ends file end h =
     let not_longer : nat_lt end (length file) ≡ false = grind (arith, nat_tests) in
     rw not_longer refl
@@ -126,6 +128,7 @@ no_chips file set = record {
   each = λ c below. absurd (omega arith);
   sizes = λ c below. absurd (omega arith);
   bytes = λ c below. absurd (omega arith);
+  fits = λ c below. absurd (omega arith);
 }
 
 -- before the first record

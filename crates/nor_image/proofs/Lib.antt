@@ -1,7 +1,12 @@
 pub mod Images
 pub mod Joined
 pub mod Lanes
+pub mod Putting
+pub mod ReadBack
 pub mod Records
 pub mod Refusals
+pub mod Rightly
 pub mod Sizes
+pub mod Standing
+pub mod Storing
 pub mod WeakPlaces

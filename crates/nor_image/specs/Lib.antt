@@ -1,3 +1,4 @@
 pub mod Image
 pub mod Loaded
 pub mod Reading
+pub mod Written

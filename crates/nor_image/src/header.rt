@@ -7,7 +7,7 @@ use crate::ImageError;
 use crate::fields::{byte_field, byte_up_to, bytes_field, check};
 use nor_cell::{Device, Geometry, make_geometry};
 
-const MAGIC: &[u8; 8] = b"NORBANK1";
+pub const MAGIC: &[u8; 8] = b"NORBANK1";
 
 /// What the header says: the width in bytes, the lanes and the device.
 #[derive(Clone, Copy)]

@@ -34,6 +34,7 @@
 //! It stands on nor_cell and nor_intel for the chips, nor_bus for the bank, and nor_io for fields.
 #![tactic(auto)]
 
+mod blocks;
 mod error;
 mod fields;
 mod header;
@@ -41,6 +42,7 @@ mod loaded;
 mod read;
 mod record;
 mod size;
+mod write;
 
 pub use error::ImageError;
 pub use loaded::Loaded;

@@ -2,10 +2,11 @@ ghost use Rattle.std.specs.Prelude.{◌≡◌, ◌<◌, ◌≤◌, ◌+◌, ◌^
 ghost use Rattle.nor_cell.specs.Bits.{AreBytes};
 ghost use Rattle.nor_cell.specs.Ranges.{is_chip_size, is_ascending_below, begin_units};
 ghost use Rattle.nor_io.specs.Fields.{u32_at};
-ghost use Rattle.nor_image.specs.Image.{any_field, bytes_at, weak_field, weak_field_at, least_weak, is_weak_place, number_fields, table_field, size_field, weak_fields, record_fields, refusal_of, first_refusal, device_of, table_in, size_in, weak_in, weak_count};
+ghost use Rattle.nor_image.specs.Image.{any_field, bytes_at, is_size_by, weak_field, weak_field_at, least_weak, is_weak_place, number_fields, table_field, size_field, weak_fields, record_fields, refusal_of, first_refusal, device_of, table_in, size_in, weak_in, weak_count};
 ghost use Rattle.nor_image.specs.Reading.{Reads, MayRead, AreNumbers, AreStored};
 
 use crate::ImageError;
+use crate::blocks::blocks_of_table;
 use crate::fields::{byte_up_to, bytes_field, check, u16_up_to, u32_field};
 use crate::size::is_size_by;
 use nor_bus::lane_bytes;
@@ -71,6 +72,7 @@ fn read_size(file: &[u8], lane: u8, at: usize, table: &[u8; 512]) -> Result<u32,
     requires table { table.now ≡ table_in file.now at }
     ensures read { Reads (refusal_of file.now (size_field file.now lane at)) (λ size. size ≡ size_in file.now at) result }
     ensures sized { IfOk result (λ size. IsTrue (is_chip_size size)) }
+    ensures fits { IfOk result (λ size. IsTrue (is_size_by table.now size)) }
     ensures same { IfOk result (λ size. size ≡ size_in file.now 12) }
 {
     let size = u32_field(file, at + SIZE)?;
@@ -173,6 +175,7 @@ pub fn read_record(
     let weak = read_weak(alloc, file, device, at, numbers.weak_count, size)?;
     let cells_at = at + FIXED_PART + 4 * usize::from(numbers.weak_count);
     let bytes = read_cells(alloc, file, cells_at, size)?;
+    let blocks = blocks_of_table(alloc, &table, size)?;
     let parts = CellParts {
         device,
         table,
@@ -184,7 +187,7 @@ pub fn read_record(
         pace_suspend: numbers.pace_suspend,
         suspends: numbers.suspends,
         erases: numbers.erases,
-        blocks: Vec::new(alloc),
+        blocks,
     };
     Ok(make_cells(alloc, parts)?)
 }
