@@ -1,0 +1,5 @@
+pub mod Admits
+pub mod After
+pub mod Array
+pub mod Consts
+pub mod Refusals
