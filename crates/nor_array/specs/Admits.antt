@@ -85,7 +85,7 @@ first_locked a op = if needs_unlocked op then lowest (λ b. touches a op b && is
 -- so many bytes, of any value
 pub record AreUncertain (n : ℕ) (bytes : List ℕ) : Type 0 where
   pub size : length bytes ≡ n
-  pub bytes : AreBytes bytes
+  pub values : AreBytes bytes
 
 -- each byte is one that programming the data may leave of the old one
 pub record AllBetween (old new bytes : List ℕ) : Type 0 where
@@ -142,7 +142,7 @@ erase_breaks a = list_any (meets (open_span a).from (open_span a).len) a.consts.
 pub record FailsWhole (a : ArrayState) (from to : ℕ) (bytes : List ℕ) : Type 0 where
   pub begins : from ≡ (open_span a).from
   pub ends : to ≡ span_end (open_span a)
-  pub bytes : AreUncertain (open_span a).len bytes
+  pub left : AreUncertain (open_span a).len bytes
 
 -- A poll is Erased exactly where no weak span lies in the block under erase, and Failed exactly where one does.
 abbrev pub PollEnds : ArrayState → Reply → List ℕ → Type 0

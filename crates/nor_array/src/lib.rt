@@ -1,12 +1,15 @@
 //! The plain NOR array.
 #![tactic(auto)]
 
+mod admit;
 mod array;
 mod bytes;
 mod entry;
+mod program;
 mod refuse;
 mod state;
 
+pub use admit::admits;
 pub use array::{Consts, PlainArray, bytes_of, plain};
 pub use bytes::{Bytes, make_bytes};
 pub use entry::{Entry, Halted, Op, Reply};
