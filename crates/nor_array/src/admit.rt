@@ -1,7 +1,7 @@
 //! Whether an array admits an entry, decided in the plainest way.
 ghost use Rattle.std.specs.Prelude.{◌≡◌, ◌<◌, ◌≤◌, ◌+◌, ◌-◌, ◌↔◌, ◌&&◌, length, IsTrue};
 ghost use Rattle.std.specs.List.{list_any};
-ghost use Rattle.nor_cell.specs.Bits.{AreBytes};
+ghost use Rattle.nor_cell.specs.Chip.{span_end};
 ghost use Rattle.nor_array.specs.Array.{open_span, is_locked, is_open, meets};
 ghost use Rattle.nor_array.specs.Refusals.{touches};
 ghost use Rattle.nor_array.specs.Admits.{lowest, HasItsCaller, needs_no_chip, may_wait, IsArmed, may_stick, needs_unlocked, first_locked, AreUncertain, ProgramLeaves, HaltLeaves, erase_breaks, FailsWhole, PollEnds, Ends, EndsUnlocked, AsksChips, Admits};
@@ -122,7 +122,8 @@ fn first_locked(array: &PlainArray, op: &Op) -> Option<u32>
 
 // The bytes under erase.
 pub(crate) fn open_span(array: &PlainArray) -> Span
-    ensures { result ≡ open_span array.now }
+    ensures span { result ≡ open_span array.now }
+    ensures inside { span_end result ≤ length (array.now).bytes }
 {
     match array.under {
         Some(open) => span_of(array, open.block),
