@@ -1,0 +1,6 @@
+pub mod Admits
+pub mod After
+pub mod Array
+pub mod Consts
+pub mod Fits
+pub mod Refusals
