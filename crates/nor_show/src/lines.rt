@@ -1,5 +1,4 @@
 ghost use Rattle.std.specs.Prelude.{◌≡◌, ◌<◌, ◌≤◌, ◌*◌, ◌^◌, ◌++◌, List, ℕ, OnOk, IfOk, string_bytes};
-ghost use Rattle.nor_query.specs.Valid.{IsValid};
 ghost use Rattle.nor_cell.specs.Bits.{unit_len};
 ghost use Rattle.nor_cell.specs.Table.{buffer_units_of};
 ghost use Rattle.nor_show.specs.Lines.{wiring_lines, size_lines, buffer_lines, times_line, version_lines, offer_lines, query_lines, region_lines, limit_lines, shown_lines, spaced};
@@ -115,6 +114,7 @@ fn write_query(text: &mut String, device: Device, query: &Query) -> Result<(), A
 
 /// The lines that tell what a bank is: the bytes of its bus word and its wiring, its chips' query
 /// table, and its map of erase regions, of the whole bank. Numbers are decimal, but for identifiers.
+/// A chip has at most 2^27 bytes.
 pub fn show_text(
     alloc: Global,
     width: u8,
@@ -122,7 +122,7 @@ pub fn show_text(
     query: &Query,
     map: &BlockMap,
 ) -> Result<String, AllocError>
-    requires { IsValid query.now }
+    requires { query.now.size_log ≤ 27 }
     ensures { IfOk result (λ text. string_bytes text ≡ shown_lines width g query.now map.now) }
 {
     let mut text = String::new(alloc);
