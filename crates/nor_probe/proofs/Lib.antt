@@ -1,5 +1,6 @@
 pub mod Asked
 pub mod Lanes
+pub mod Looking
 pub mod Searching
 pub mod Shown
 pub mod TablesRead

@@ -75,7 +75,7 @@ rests_reset s m t first last = λ is. let x = first is in last x.0 ∙ x.1
 
 -- ---- what a wiring shows depends on what the chips are alone
 
-word_kept : (a b : BusState) (u : ℕ) → KeepsLanes a b → query_word b.lanes u ≡ query_word a.lanes u
+pub word_kept : (a b : BusState) (u : ℕ) → KeepsLanes a b → query_word b.lanes u ≡ query_word a.lanes u
 word_kept a b u kept = same_words (λ s. query_at s.part u) (λ s. query_at s.part u) a.lanes b.lanes kept.count
     (λ c below. ap (λ (p : Part). unit_bytes p.device (query_at p u)) (kept.each c below).part)
 

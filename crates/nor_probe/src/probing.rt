@@ -40,6 +40,7 @@ fn look<W: BusWord, B: Bus<W>>(
     ensures lanes { OnOk result (EachLane Rests (B.state bus.old) (B.state bus.new)) }
     ensures refused { IfOk result (λ seen. AllLanes IsResting (B.state bus.old) → IfErr seen (λ e. refusal W.WIDTH (B.state bus.old).lanes ≡ Some e)) }
     ensures table { IfOk result (λ seen. AllLanes IsResting (B.state bus.old) → IfOk seen (λ s. IsCommonTable W.WIDTH (B.state bus.old).lanes s.0 s.1)) }
+    ensures power { IfOk result (λ seen. IfErr seen (λ e. e ≢ LostPower)) }
     ensures lost { OnErr result (Lost 522 (B.state bus.old) (B.state bus.new)) }
     ensures units { units_of (B.state bus.new) ≡ units_of (B.state bus.old) }
 {
