@@ -1,4 +1,5 @@
 pub mod Asked
+pub mod Judged
 pub mod Lanes
 pub mod Looking
 pub mod OwnTables
