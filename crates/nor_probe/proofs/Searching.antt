@@ -32,3 +32,18 @@ found_passes p (y ∷ xs) x is = by_test (p y) refl is (found_passes p xs x)
   by_test : (b : Bool) → p y ≡ b → cond b (Some y) (find p xs) ≡ Some x → (find p xs ≡ Some x → p x ≡ true) → p x ≡ true
   by_test true passes found later = let same : y ≡ x = cc in ap p (sym same) ∙ passes
   by_test false fails found later = later found
+
+fails_then : (b : Bool) (x : ℕ) (o : Option ℕ) → cond b (Some x) o ≡ None → (b ≡ false) × (o ≡ None)
+fails_then true x o none = absurd cc
+fails_then false x o none = (refl, none)
+
+-- what isn't found doesn't pass
+pub none_found : (p : ℕ → Bool) (from n : ℕ) → find p (range_with_len from n) ≡ None → (k : ℕ) → from ≤ k → k < from + n → p k ≡ false
+none_found p from zero none k least most = absurd (omega arith)
+none_found p from (suc n) none k least most =
+    let so = fails_then (p from) from (find p (range_with_len (from + 1) n)) none in
+    here_or_later so.0 (cases_eq from k) (λ later. none_found p (from + 1) n so.1 k (omega arith) (omega arith))
+  where
+  here_or_later : p from ≡ false → (from ≡ k) ⊎ (from ≢ k) → (from ≢ k → p k ≡ false) → p k ≡ false
+  here_or_later fails (inl here) rest = ap p (sym here) ∙ fails
+  here_or_later fails (inr later) rest = rest later

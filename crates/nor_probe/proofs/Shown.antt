@@ -1,6 +1,7 @@
 -- What several readings of the query table show together.
-use Rattle.std.proofs.Common.{slice_index_or, suc, ◌≡◌, ◌<◌, ◌≤◌, ◌+◌, ◌*◌, ◌&&◌, ℕ, List, length, refl, sym, ap, subst, ◌∙◌, arith, Bool, true, false, drop, ◌∷◌, Some, cond}
+use Rattle.std.proofs.Common.{slice_index_or, All, IsTrue, suc, ◌≡◌, ◌<◌, ◌≤◌, ◌+◌, ◌*◌, ◌&&◌, ℕ, List, length, refl, sym, ap, subst, ◌∙◌, arith, Bool, true, false, drop, ◌∷◌, Some, cond}
 use Rattle.std.specs.List.{find}
+use Rattle.std.proofs.lemmas.List.Elements.{All-get_or}
 use Rattle.std.proofs.Math.Seq.{drop-cons}
 use Rattle.nor_cell.specs.Bits.{unit_bytes, unit_len}
 use Rattle.nor_cell.specs.Chip.{ChipState, Part, Query}
@@ -14,7 +15,9 @@ use Rattle.nor_bus.specs.Driven.{EachLane, AllLanes, Went}
 use Rattle.nor_bus.specs.Words.{query_word}
 use Rattle.nor_bus.proofs.Words.{same_chips, same_words}
 use Rattle.nor_bus.proofs.Driving.{went_then, went_none}
+use Rattle.nor_cell.specs.Wiring.{is_wiring}
 use Rattle.nor_lane.specs.Candidates.{candidates_of}
+use Rattle.nor_lane.proofs.Geometries.{candidates_fit}
 use Rattle.nor_probe.specs.Asking.{Resets, Asks, ShowsQuery, Stays, Rests}
 use Rattle.nor_probe.specs.Counted.{Counted}
 use Rattle.nor_probe.specs.Found.{lanes_read, query_address, shows_at, shows_qry, found_geometry}
@@ -72,7 +75,7 @@ rests_reset s m t first last = λ is. let x = first is in last x.0 ∙ x.1
 
 -- ---- what a wiring shows depends on what the chips are alone
 
-word_kept : (a b : BusState) (u : ℕ) → KeepsLanes a b → query_word b.lanes u ≡ query_word a.lanes u
+pub word_kept : (a b : BusState) (u : ℕ) → KeepsLanes a b → query_word b.lanes u ≡ query_word a.lanes u
 word_kept a b u kept = same_words (λ s. query_at s.part u) (λ s. query_at s.part u) a.lanes b.lanes kept.count
     (λ c below. ap (λ (p : Part). unit_bytes p.device (query_at p u)) (kept.each c below).part)
 
@@ -151,3 +154,10 @@ pub next_wiring : (width i : ℕ) (xs : List Geometry) (d : Geometry) → xs ≡
 next_wiring width i xs d is below =
     let next : drop (suc i) xs ≡ drop (i + 1) xs = let e : suc i ≡ i + 1 = omega arith in ap (λ (n : ℕ). drop n xs) e in
     subst (λ (ys : List Geometry). drop i ys ≡ slice_index_or xs i d ∷ drop (i + 1) ys) is (drop-cons xs i d below ∙ ap (λ (ys : List Geometry). slice_index_or xs i d ∷ ys) next)
+
+-- it is a wiring of the word
+pub candidate_fits : (width i : ℕ) (xs : List Geometry) (d : Geometry) → xs ≡ candidates_of width → i < length xs
+    → let g = slice_index_or xs i d in IsTrue (is_wiring width g.lanes g.device)
+candidate_fits width i xs d is below =
+    let fits = λ (g : Geometry). IsTrue (is_wiring width g.lanes g.device) in
+    All-get_or fits xs i d below (subst (λ (ys : List Geometry). All fits ys) (sym is) (candidates_fit width))

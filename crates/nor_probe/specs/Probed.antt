@@ -3,9 +3,9 @@ use Rattle.std.specs.Prelude.{◌≡◌, ℕ, List, Option, Some, None, map, len
 use Rattle.std.specs.Option.{option_or, option_map}
 use Rattle.nor_cell.specs.Chip.{ChipState}
 use Rattle.nor_cell.specs.declared.geometry.Geometry.{Geometry}
-use Rattle.nor_region.specs.Map.{in_order, scaled_region}
+use Rattle.nor_region.specs.Map.{in_order, scaled_region, scaled_span, spans_of}
 use Rattle.nor_query.specs.Checks.{first_error}
-use Rattle.nor_query.specs.Derived.{is_reversed}
+use Rattle.nor_query.specs.Derived.{is_reversed, table_blocks}
 use Rattle.nor_query.specs.Stands.{StandsFor}
 use Rattle.nor_probe.specs.Found.{found_geometry}
 use Rattle.nor_probe.specs.Tables.{table_read, first_difference}
@@ -28,11 +28,17 @@ pub record IsCommonTable (width : ℕ) (chips : List ChipState) (g : Geometry) (
   pub same : first_difference g chips ≡ None
   pub bytes : table ≡ table_read g chips 0
 
--- What is found on a bank: the first wiring that it answers to, the query for which the table stands that all lanes show,
--- and the regions of a chip in the order of their addresses, as wide as all lanes side by side.
+-- What a table says of a bank of such chips on a wiring: the query that it stands for, and its regions in the order of their
+-- addresses, as wide as all lanes side by side.
+pub record IsFoundBy (g : Geometry) (table : List ℕ) (found : Found) : Type 0 where
+  pub wiring : found.geometry ≡ g
+  pub stands : StandsFor table found.query
+  pub regions : found.map ≡ map (scaled_region g.lanes)
+      (in_order (is_reversed found.query.extended found.query.minor (length found.query.regions.items)) found.query.regions.items)
+  pub blocks : spans_of found.map ≡ map (scaled_span g.lanes) (table_blocks table)
+
+-- What is found on a bank: the first wiring that it answers to, and what the table says that all lanes show.
 pub record IsFoundOn (width : ℕ) (chips : List ChipState) (found : Found) : Type 0 where
   pub wiring : found_geometry width chips ≡ Some found.geometry
   pub same : first_difference found.geometry chips ≡ None
-  pub stands : StandsFor (table_read found.geometry chips 0) found.query
-  pub regions : found.map ≡ map (scaled_region found.geometry.lanes)
-      (in_order (is_reversed found.query.extended found.query.minor (length found.query.regions.items)) found.query.regions.items)
+  pub says : IsFoundBy found.geometry (table_read found.geometry chips 0) found

@@ -1,15 +1,13 @@
 -- Banks whose chips are what their tables say.
-use Rattle.std.specs.Prelude.{◌≡◌, ◌<◌, ◌^◌, ℕ, List, length, ◌++◌, drop, replicate, map, false, Some}
+use Rattle.std.specs.Prelude.{◌≡◌, ◌<◌, ◌^◌, ℕ, List, length, ◌++◌, drop, replicate, false, Some}
 use Rattle.nor_cell.specs.Chip.{ChipState, is_locked}
 use Rattle.nor_cell.specs.Ranges.{IsChip}
 use Rattle.nor_cell.specs.Table.{field_8, set_of, has_locks}
 use Rattle.nor_cell.specs.declared.geometry.Geometry.{Geometry}
 use Rattle.nor_bus.specs.Bus.{BusState, lane, lanes_of}
 use Rattle.nor_bus.specs.Driven.{IsOwn, AllLanes}
-use Rattle.nor_region.specs.Map.{spans_of, scaled_span}
-use Rattle.nor_query.specs.Derived.{table_blocks}
-use Rattle.nor_query.specs.Stands.{StandsFor}
 use Rattle.nor_probe.specs.Found.{found_geometry}
+use Rattle.nor_probe.specs.Probed.{IsFoundBy}
 use Rattle.nor_probe.specs.Tables.{table_read}
 use Rattle.nor_probe.specs.declared.probing.Found.{Found}
 
@@ -45,11 +43,8 @@ pub record ShowsItself (width : ℕ) (g : Geometry) (bus : BusState) : Type 0 wh
 abbrev pub AllShow : List ℕ → BusState → Type 0
 AllShow table bus = AllLanes (λ s. shown_table s ≡ table) bus
 
--- What is found is the bus's own: its wiring, the query of the table that each lane shows, and the blocks of that table, as wide
--- as all lanes side by side.
+-- What is found is the bus's own: its wiring, and what the table says that each lane shows.
 pub record IsOwnFound (g : Geometry) (bus : BusState) (found : Found) : Type 0 where
   pub table : List ℕ
-  pub wiring : found.geometry ≡ g
   pub same : AllShow table bus
-  pub stands : StandsFor table found.query
-  pub blocks : spans_of found.map ≡ map (scaled_span g.lanes) (table_blocks table)
+  pub says : IsFoundBy g table found

@@ -1,15 +1,17 @@
-ghost use Rattle.std.specs.Prelude.{◌≡◌, ◌≢◌, ℕ, List, IfOk, IfErr, OnOk, OnErr, IsOk, Some, None, Err};
+ghost use Rattle.std.specs.Prelude.{◌≡◌, ◌≢◌, ◌<◌, ◌≤◌, ℕ, List, IfOk, IfErr, OnOk, OnErr, IsOk, IsTrue, Some, None, Err};
+ghost use Rattle.std.specs.Option.{option_map};
 ghost use Rattle.std.specs.Result.{result_err};
 ghost use Rattle.nor_cell.specs.Resting.{IsResting};
+ghost use Rattle.nor_cell.specs.Wiring.{is_wiring};
 ghost use Rattle.nor_cell.specs.declared.geometry.Geometry.{Geometry};
 ghost use Rattle.nor_bus.specs.Bus.{units_of};
 ghost use Rattle.nor_bus.specs.Driven.{Lost, EachLane, AllLanes};
 ghost use Rattle.nor_query.specs.Checks.{first_error};
 ghost use Rattle.nor_probe.specs.Asking.{Resets, Rests};
 ghost use Rattle.nor_probe.specs.Counted.{Counted};
-ghost use Rattle.nor_probe.specs.Probed.{refusal, IsCommonTable, IsFoundOn};
+ghost use Rattle.nor_probe.specs.Probed.{refusal, IsCommonTable, IsFoundBy, IsFoundOn};
 ghost use Rattle.nor_probe.specs.WellWired.{IsWellWired, ShowsItself, AllShow, IsOwnFound};
-ghost use Rattle.nor_probe.specs.declared.error.ProbeError.TheVariants.{Off as LostPower};
+ghost use Rattle.nor_probe.specs.declared.error.ProbeError.TheVariants.{Query as QueryRefused, Off as LostPower};
 
 use crate::ProbeError;
 use crate::asking::reset;
@@ -40,6 +42,8 @@ fn look<W: BusWord, B: Bus<W>>(
     ensures lanes { OnOk result (EachLane Rests (B.state bus.old) (B.state bus.new)) }
     ensures refused { IfOk result (λ seen. AllLanes IsResting (B.state bus.old) → IfErr seen (λ e. refusal W.WIDTH (B.state bus.old).lanes ≡ Some e)) }
     ensures table { IfOk result (λ seen. AllLanes IsResting (B.state bus.old) → IfOk seen (λ s. IsCommonTable W.WIDTH (B.state bus.old).lanes s.0 s.1)) }
+    ensures power { IfOk result (λ seen. IfErr seen (λ e. e ≢ LostPower)) }
+    ensures wiring { IfOk result (λ seen. IfOk seen (λ s. IsTrue (is_wiring W.WIDTH s.0.lanes s.0.device))) }
     ensures lost { OnErr result (Lost 522 (B.state bus.old) (B.state bus.new)) }
     ensures units { units_of (B.state bus.new) ≡ units_of (B.state bus.old) }
 {
@@ -50,6 +54,23 @@ fn look<W: BusWord, B: Bus<W>>(
         Ok(table) => Ok(Ok((geometry, table))),
         Err(differs) => Ok(Err(differs)),
     }
+}
+
+/// What a table says of a bank of such chips.
+fn found_of(geometry: Geometry, table: &[u8; 512]) -> Result<Found, ProbeError>
+    requires some { 0 < geometry.lanes }
+    requires few { geometry.lanes ≤ 4 }
+    ensures refused { result_err result ≡ option_map QueryRefused (first_error table.now) }
+    ensures found { IfOk result (IsFoundBy geometry table.now) }
+    ensures power { IfErr result (λ e. e ≢ LostPower) }
+{
+    let query = decode(table)?;
+    let map = query.block_map().scaled(geometry.lanes);
+    Ok(Found {
+        geometry,
+        query,
+        map,
+    })
 }
 
 /// Finds what a bank is: how its chips are wired, what their query tables (JESD68) say, and its
@@ -86,11 +107,5 @@ pub fn probe<W: BusWord, B: Bus<W>>(bus: &mut B) -> Result<Found, ProbeError>
     let seen = look::<W, B>(bus)?;
     reset::<W, B>(bus)?;
     let (geometry, table) = seen?;
-    let query = decode(&table)?;
-    let map = query.block_map().scaled(geometry.lanes);
-    Ok(Found {
-        geometry,
-        query,
-        map,
-    })
+    found_of(geometry, &table)
 }

@@ -1,5 +1,5 @@
 //! The query tables of a bank's lanes.
-ghost use Rattle.std.specs.Prelude.{◌≡◌, ◌<◌, ℕ, None, Some, MatchResult, IfOk, OnOk, OnErr, IsTrue, true};
+ghost use Rattle.std.specs.Prelude.{◌≡◌, ◌≢◌, ◌<◌, IfOk, IfErr, OnOk, OnErr, IsTrue, true};
 ghost use Rattle.std.specs.Result.{result_err};
 ghost use Rattle.nor_cell.specs.Wiring.{is_wiring};
 ghost use Rattle.nor_bus.specs.Bus.{units_of};
@@ -7,7 +7,8 @@ ghost use Rattle.nor_bus.specs.Driven.{Went, Lost, EachLane, AllLanes};
 ghost use Rattle.nor_probe.specs.Asking.{ShowsQuery, Stays};
 ghost use Rattle.nor_probe.specs.Counted.{Counted};
 ghost use Rattle.nor_probe.specs.Found.{shows_qry};
-ghost use Rattle.nor_probe.specs.Tables.{table_word, low_byte as low_byte_lem, odd_lane, difference_in, table_read, first_difference, known_byte as known_byte_lem, reads_at};
+ghost use Rattle.nor_probe.specs.Tables.{table_word, low_byte as low_byte_lem, difference_in, table_read, first_difference, known_byte as known_byte_lem, reads_at};
+ghost use Rattle.nor_probe.specs.declared.error.ProbeError.TheVariants.{Off as LostPower};
 
 use crate::ProbeError;
 use crate::asking::read_query;
@@ -33,6 +34,7 @@ fn common_byte<W: BusWord>(word: W, g: Geometry, offset: u16) -> Result<u8, Prob
     requires { IsTrue (is_wiring W.WIDTH g.lanes g.device) }
     ensures differs { result_err result ≡ difference_in g offset (W.bytes word) }
     ensures byte { IfOk result (λ byte. byte ≡ low_byte_lem g (W.bytes word) 0) }
+    ensures power { IfErr result (λ e. e ≢ LostPower) }
 {
     let left = low_byte(word, g, 0);
     for lane in 1..g.lanes {
@@ -77,6 +79,7 @@ fn byte_at<W: BusWord, B: Bus<W>>(
         → result_err read ≡ difference_in g offset (table_word g (B.state bus.old).lanes offset)) }
     ensures byte { IfOk result (λ read. AllLanes ShowsQuery (B.state bus.old) → shows_qry g (B.state bus.old).lanes ≡ true
         → IfOk read (λ byte. byte ≡ low_byte_lem g (table_word g (B.state bus.old).lanes offset) 0)) }
+    ensures power { IfOk result (λ read. IfErr read (λ e. e ≢ LostPower)) }
     ensures lost { OnErr result (Lost 1 (B.state bus.old) (B.state bus.new)) }
     ensures units { units_of (B.state bus.new) ≡ units_of (B.state bus.old) }
 {
@@ -100,6 +103,7 @@ pub fn read_table<W: BusWord, B: Bus<W>>(
         → result_err read ≡ first_difference g (B.state bus.old).lanes) }
     ensures table { IfOk result (λ read. AllLanes ShowsQuery (B.state bus.old) → shows_qry g (B.state bus.old).lanes ≡ true
         → IfOk read (λ table. table ≡ table_read g (B.state bus.old).lanes 0)) }
+    ensures power { IfOk result (λ read. IfErr read (λ e. e ≢ LostPower)) }
     ensures lost { OnErr result (Lost 501 (B.state bus.old) (B.state bus.new)) }
     ensures units { units_of (B.state bus.new) ≡ units_of (B.state bus.old) }
 {

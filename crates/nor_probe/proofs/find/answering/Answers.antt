@@ -6,7 +6,7 @@ use Rattle.nor_bus.specs.Driven.{Lost}
 use Rattle.nor_bus.proofs.Driving.{lost_then}
 use Rattle.nor_lane.specs.Candidates.{candidates_of}
 use Rattle.nor_probe.proofs.Asked.{on_err}
-use Rattle.nor_probe.proofs.Shown.{asked_rests, tried_asks, tried_counted, tried_and_seven, tried_more, tried_found, next_wiring}
+use Rattle.nor_probe.proofs.Shown.{asked_rests, tried_asks, tried_counted, tried_and_seven, tried_more, tried_found, next_wiring, candidate_fits}
 use Rattle.nor_probe.proofs.find.answering.Goals as goal
 
 pub returns-in_err-shows-clause-lost : goal.returns-in_err-shows-clause-lost
@@ -66,3 +66,9 @@ loop-i-preserved g c =
           (next_wiring g.W.BusWord.WIDTH c.loop-i.i c.as_slice-wirings.result.now none is (omega arith)) c.if-shows.false;
       units = c.in_ok-shows.ensures.units ∙ c.loop-i.invariant.units;
     }
+
+pub returns-then-shows-clause-wiring : goal.returns-then-shows-clause-wiring
+returns-then-shows-clause-wiring g c =
+    let none : Geometry = record { lanes = 0; device = X8 } in
+    let is : c.as_slice-wirings.result.now ≡ candidates_of g.W.BusWord.WIDTH = c.as_slice-wirings.ensures.value ∙ (c.candidates-list.ensures ∙ ap candidates_of c.WIDTH.ensures) in
+    candidate_fits g.W.BusWord.WIDTH c.loop-i.i c.as_slice-wirings.result.now none is (omega arith)
