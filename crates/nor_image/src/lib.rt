@@ -47,6 +47,7 @@ mod write;
 pub use error::ImageError;
 pub use loaded::Loaded;
 pub use read::read_image;
+pub use write::{fill_image, write_image};
 
 #[cfg(test)]
 mod tests;

@@ -1,14 +1,16 @@
 ghost use Rattle.std.specs.Prelude.{◌≡◌, ◌<◌, ◌≤◌, ◌+◌, ◌*◌, ◌^◌, ℕ, length, map, IfOk};
 ghost use Rattle.nor_cell.specs.Cells.{part_of};
 ghost use Rattle.nor_cell.specs.Chip.{ChipState};
-ghost use Rattle.nor_bus.specs.Bus.{lanes_of, lane as lane_state};
-ghost use Rattle.nor_image.specs.Image.{IsImageOf};
-ghost use Rattle.nor_image.specs.Written.{code_of_device, header_bytes, number_bytes, place_bytes, kept_bytes, record_bytes, records_bytes, file_of, Puts};
+ghost use Rattle.nor_bus.specs.Bus.{IsWired, lanes_of, lane as lane_state};
+ghost use Rattle.nor_image.specs.Loaded.{bus_of, loaded_width};
+ghost use Rattle.nor_image.specs.Written.{code_of_device, header_bytes, number_bytes, place_bytes, kept_bytes, record_bytes, file_of, Puts, HaveBits, HasFields, Stores};
 
+use crate::Loaded;
 use crate::header::MAGIC;
 use crate::record::{FIRST_RECORD, FIXED_PART};
 use nor_bus::{Bus, SimBank, lane_bytes};
 use nor_cell::{Cells, Chip, Device, NoMemory, Set};
+use crate::with_bank;
 use nor_word::BusWord;
 use std::alloc::Global;
 
@@ -43,7 +45,8 @@ fn put_header(file: &mut [u8], width: u8, device: Device, lanes: u8) -> usize
 // What a record says first.
 fn put_numbers(file: &mut [u8], at: usize, cells: &Cells) -> usize
     requires { at + 20 ≤ length file.old }
-    ensures { Puts (number_bytes (part_of Set.Intel cells.now) cells.now.suspends cells.now.erases) at file.old file.new result }
+    ensures bits { HaveBits (part_of Set.Intel cells.now) cells.now.suspends cells.now.erases }
+    ensures numbers { Puts (number_bytes (part_of Set.Intel cells.now) cells.now.suspends cells.now.erases) at file.old file.new result }
 {
     let at = put(file, at, &cells.pace_program.to_le_bytes());
     let at = put(file, at, &cells.pace_erase.to_le_bytes());
@@ -67,7 +70,8 @@ fn put_places(file: &mut [u8], at: usize, places: &[u32]) -> usize
 // The record of a chip with these cells.
 fn put_cells(file: &mut [u8], at: usize, cells: &Cells) -> usize
     requires { at + (536 + 4 * length cells.now.weak.items + length cells.now.bytes.items) ≤ length file.old }
-    ensures { Puts (kept_bytes (part_of Set.Intel cells.now) cells.now.bytes.items cells.now.suspends cells.now.erases) at file.old file.new result }
+    ensures bits { HaveBits (part_of Set.Intel cells.now) cells.now.suspends cells.now.erases }
+    ensures kept { Puts (kept_bytes (part_of Set.Intel cells.now) cells.now.bytes.items cells.now.suspends cells.now.erases) at file.old file.new result }
 {
     let at = put_numbers(file, at, cells);
     let at = put(file, at, &cells.table);
@@ -78,7 +82,8 @@ fn put_cells(file: &mut [u8], at: usize, cells: &Cells) -> usize
 
 fn put_chip<C: Chip>(file: &mut [u8], at: usize, chip: &C) -> usize
     requires { at + length (record_bytes (C.state chip.now)) ≤ length file.old }
-    ensures { Puts (record_bytes (C.state chip.now)) at file.old file.new result }
+    ensures fields { HasFields (C.state chip.now) }
+    ensures bytes { Puts (record_bytes (C.state chip.now)) at file.old file.new result }
 {
     put_cells(file, at, chip.cells())
 }
@@ -104,6 +109,7 @@ fn lanes_of<W: BusWord, C: Chip + Drop>(bank: &SimBank<W, C>) -> u8
     ensures value { result ≡ lanes_of bank.now }
     ensures some { 0 < result }
     ensures few { result ≤ 4 }
+    ensures wired { IsWired W.WIDTH bank.now }
 {
     let _ = bank.units();
     W::WIDTH / lane_bytes(device_of(bank))
@@ -122,7 +128,8 @@ fn file_len<W: BusWord, C: Chip + Drop>(bank: &SimBank<W, C>) -> usize
 
 fn fill<W: BusWord, C: Chip + Drop>(bank: &SimBank<W, C>, file: &mut [u8])
     requires { length file.old ≡ length (file_of W.WIDTH bank.now.lanes) }
-    ensures { file.new ≡ file_of W.WIDTH bank.now.lanes }
+    ensures file { file.new ≡ file_of W.WIDTH bank.now.lanes }
+    ensures stands { Stores file.new W.WIDTH bank.now.lanes }
 {
     let lanes = lanes_of(bank);
     let mut at = put_header(file, W::WIDTH, device_of(bank), lanes);
@@ -132,9 +139,29 @@ fn fill<W: BusWord, C: Chip + Drop>(bank: &SimBank<W, C>, file: &mut [u8])
 }
 
 fn write<W: BusWord, C: Chip + Drop>(alloc: Global, bank: &SimBank<W, C>) -> Result<Vec<u8>, NoMemory>
-    ensures { IfOk result (λ file. file.items ≡ file_of W.WIDTH bank.now.lanes) }
+    ensures file { IfOk result (λ file. file.items ≡ file_of W.WIDTH bank.now.lanes) }
+    ensures stands { IfOk result (λ file. Stores file.items W.WIDTH bank.now.lanes) }
 {
     let mut file = vec![in alloc; 0; file_len(bank)]?;
     fill(bank, &mut file);
     Ok(file)
+}
+
+/// The file of a bank. Locks, modes and jobs aren't in it: it stands for the bank as it would be
+/// just powered on, where the bank is one that a file can store: its chips' set is the one that lane
+/// 0's table names, and each chip's size and blocks are those of its own table.
+pub fn write_image(alloc: Global, bank: &Loaded) -> Result<Vec<u8>, NoMemory>
+    ensures file { IfOk result (λ file. file.items ≡ file_of (loaded_width bank.now) (bus_of bank.now).lanes) }
+    ensures stands { IfOk result (λ file. Stores file.items (loaded_width bank.now) (bus_of bank.now).lanes) }
+{
+    with_bank!(bank, bank => write(alloc, bank))
+}
+
+/// The same in place of the bytes of a slice, which has the file's length. It takes no memory.
+pub fn fill_image(bank: &Loaded, file: &mut [u8])
+    requires { length file.old ≡ length (file_of (loaded_width bank.now) (bus_of bank.now).lanes) }
+    ensures file { file.new ≡ file_of (loaded_width bank.now) (bus_of bank.now).lanes }
+    ensures stands { Stores file.new (loaded_width bank.now) (bus_of bank.now).lanes }
+{
+    with_bank!(bank, bank => fill(bank, file))
 }

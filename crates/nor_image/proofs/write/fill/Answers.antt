@@ -23,10 +23,10 @@ loop-lane-preserved g c =
     let below : c.loop-lane.lane < length c.args.bank.now.lanes = omega (arith, c.loop-lane-test.true, c.lanes_of-lanes.ensures.value) in
     chips_more (header_bytes g.W.BusWord.WIDTH (chip_at c.args.bank.now.lanes 0).part.device (length c.args.bank.now.lanes)) c.args.bank.now.lanes
     c.loop-lane.lane below c.loop-lane.invariant
-    (subst (λ (s : ChipState). Puts (record_bytes s) c.loop-lane.at c.loop-lane.file c.put_chip-at.new.file c.put_chip-at.result) c.chip.ensures c.put_chip-at.ensures)
+    (subst (λ (s : ChipState). Puts (record_bytes s) c.loop-lane.at c.loop-lane.file c.put_chip-at.new.file c.put_chip-at.result) c.chip.ensures c.put_chip-at.ensures.bytes)
 
-pub returns : goal.returns
-returns g c =
+pub returns-clause-file : goal.returns-clause-file
+returns-clause-file g c =
     let all : length c.args.bank.now.lanes ≤ c.loop-lane.lane = omega (arith, c.loop-lane-test.false, c.lanes_of-lanes.ensures.value) in
     puts_all (header_bytes g.W.BusWord.WIDTH (chip_at c.args.bank.now.lanes 0).part.device (length c.args.bank.now.lanes)) c.args.bank.now.lanes
     c.loop-lane.lane all c.loop-lane.invariant c.requires
