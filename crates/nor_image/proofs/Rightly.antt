@@ -17,12 +17,12 @@ use Rattle.nor_image.proofs.Records.{in_cells}
 use Rattle.nor_image.proofs.Refusals.{or_none, goes_on}
 
 -- a field that is whole and right isn't refused
-right_field : (file : List ℕ) (field : Field) → field.at + field.size ≤ length file → field.bad ≡ None → refusal_of file field ≡ None
+pub right_field : (file : List ℕ) (field : Field) → field.at + field.size ≤ length file → field.bad ≡ None → refusal_of file field ≡ None
 right_field file field whole right =
     let enough : nat_lt (length file) (field.at + field.size) ≡ false = grind (arith, nat_tests) in
     rw enough right
 
-right_tested : (file : List ℕ) (at size : ℕ) (valid : Bool) → at + size ≤ length file → valid ≡ true → refusal_of file (tested_field at size valid) ≡ None
+pub right_tested : (file : List ℕ) (at size : ℕ) (valid : Bool) → at + size ≤ length file → valid ≡ true → refusal_of file (tested_field at size valid) ≡ None
 right_tested file at size valid whole right =
     right_field file (tested_field at size valid) whole (ap (λ (b : Bool). if b then None else Some (BadHeader at)) right)
 
@@ -34,7 +34,7 @@ next_above n (x ∷ y ∷ ys) zero h below =
     let first : nat_lt x y ≡ true = (both (nat_lt x y) (is_ascending_below n (y ∷ ys)) h).0 in grind (arith, nat_tests)
 next_above n (x ∷ y ∷ ys) (suc k) h below = next_above n (y ∷ ys) k (both (nat_lt x y) (is_ascending_below n (y ∷ ys)) h).1 (omega arith)
 
-all_below : (n : ℕ) (xs : List ℕ) (k : ℕ) → IsTrue (is_ascending_below n xs) → k < length xs → get_or xs k 0 < n
+pub all_below : (n : ℕ) (xs : List ℕ) (k : ℕ) → IsTrue (is_ascending_below n xs) → k < length xs → get_or xs k 0 < n
 all_below n [] k h below = absurd (omega arith)
 all_below n (x ∷ []) zero h below = (let first : nat_lt x n ≡ true = h in grind (arith, nat_tests))
 all_below n (x ∷ []) (suc k) h below = absurd (omega arith)
