@@ -9,4 +9,5 @@ pub mod Rightly
 pub mod Sizes
 pub mod Standing
 pub mod Storing
+pub mod Unique
 pub mod WeakPlaces
