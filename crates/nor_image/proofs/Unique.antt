@@ -132,9 +132,9 @@ record_back file set device at bytes whole stuck =
     let ln : length numbers ≡ 20 = refl in
     let ls : length size ≡ 4 = refl in
     let all_numbers = stand_both (pace_program ++ pace_erase ++ two ++ count ++ suspends) erases
-        (stand_both (pace_program ++ pace_erase ++ two ++ count) suspends
-        (stand_both (pace_program ++ pace_erase ++ two) count
-        (stand_both (pace_program ++ pace_erase) two (stand_both pace_program pace_erase a b) c) d) e) f in
+    (stand_both (pace_program ++ pace_erase ++ two ++ count) suspends
+    (stand_both (pace_program ++ pace_erase ++ two) count
+    (stand_both (pace_program ++ pace_erase) two (stand_both pace_program pace_erase a b) c) d) e) f in
     let with_table = stand_both numbers table all_numbers t in
     let with_size = stand_both (numbers ++ table) size with_table (stand_at (at + length (numbers ++ table)) s (omega arith)) in
     let with_places = stand_both (numbers ++ table ++ size) places with_size (stand_at (at + length (numbers ++ table ++ size)) p (omega arith)) in

@@ -5,12 +5,11 @@ ghost use Rattle.nor_bus.specs.Bus.{IsWired, lanes_of, lane as lane_state};
 ghost use Rattle.nor_image.specs.Loaded.{bus_of, loaded_width};
 ghost use Rattle.nor_image.specs.Written.{code_of_device, header_bytes, number_bytes, place_bytes, kept_bytes, record_bytes, file_of, Puts, HaveBits, HasFields, Stores};
 
-use crate::Loaded;
 use crate::header::MAGIC;
 use crate::record::{FIRST_RECORD, FIXED_PART};
+use crate::{Loaded, with_bank};
 use nor_bus::{Bus, SimBank, lane_bytes};
 use nor_cell::{Cells, Chip, Device, NoMemory, Set};
-use crate::with_bank;
 use nor_word::BusWord;
 use std::alloc::Global;
 
@@ -138,7 +137,10 @@ fn fill<W: BusWord, C: Chip + Drop>(bank: &SimBank<W, C>, file: &mut [u8])
     }
 }
 
-fn write<W: BusWord, C: Chip + Drop>(alloc: Global, bank: &SimBank<W, C>) -> Result<Vec<u8>, NoMemory>
+fn write<W: BusWord, C: Chip + Drop>(
+    alloc: Global,
+    bank: &SimBank<W, C>,
+) -> Result<Vec<u8>, NoMemory>
     ensures file { IfOk result (λ file. file.items ≡ file_of W.WIDTH bank.now.lanes) }
     ensures stands { IfOk result (λ file. Stores file.items W.WIDTH bank.now.lanes) }
 {
