@@ -1,3 +1,4 @@
+pub mod Accepting
 pub mod Images
 pub mod Joined
 pub mod Lanes
@@ -5,7 +6,6 @@ pub mod Putting
 pub mod ReadBack
 pub mod Records
 pub mod Refusals
-pub mod Rightly
 pub mod Sizes
 pub mod Standing
 pub mod Storing

@@ -1,12 +1,13 @@
 -- What is written, one piece behind the other.
-use Rattle.std.proofs.Common.{◌≡◌, ◌<◌, ◌≤◌, ℕ, ◌+◌, ◌*◌, List, ◌++◌, [], ◌∷◌, length, take, get_or, slice_index_or, refl, sym, ap, subst, ◌∙◌, arith, append_assoc, append-nil}
+use Rattle.std.proofs.Common.{◌≡◌, ◌<◌, ◌≤◌, ℕ, ◌+◌, ◌*◌, List, ◌++◌, [], ◌∷◌, length, take, get_or, refl, sym, ap, subst, ◌∙◌, arith, append_assoc, append-nil}
 use Rattle.std.proofs.lemmas.Grind.{flat_map-append}
 use Rattle.std.proofs.lemmas.List.Folds.{length-flat_map-take}
 use Rattle.std.proofs.lemmas.List.{length-append, length-take-le, take_more, take_all}
 use Rattle.std.specs.Int.{w32, to_le_bytes}
 use Rattle.nor_cell.specs.Chip.{ChipState}
 use Rattle.nor_bus.specs.Bus.{chip_at, no_chip}
-use Rattle.nor_image.specs.Written.{place_bytes, record_bytes, records_bytes, Puts, HasFields}
+use Rattle.nor_image.specs.Written.{place_bytes, record_bytes, records_bytes}
+use Rattle.nor_image.specs.Writing.{Puts, HasFields}
 use Rattle.nor_image.proofs.ReadBack.{length-place_bytes}
 
 -- nothing is written

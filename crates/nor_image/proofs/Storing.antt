@@ -1,12 +1,10 @@
 -- The file of a bank stands for that bank, just powered on.
-use Rattle.std.proofs.Common.{◌≡◌, ◌<◌, ◌≤◌, ℕ, ◌+◌, ◌*◌, ◌^◌, zero, suc, List, [], ◌∷◌, ◌++◌, length, take, map, slice_index, get_or, Bool, true, false, IsTrue, ◌==◌, ◌&&◌, ◌||◌, nat_le, All, replicate, codes, refl, sym, ap, subst, ◌∙◌, arith, add-one, Option, Some, None}
+use Rattle.std.proofs.Common.{◌≡◌, ◌<◌, ◌≤◌, ℕ, ◌+◌, ◌^◌, zero, suc, List, [], ◌∷◌, ◌++◌, length, take, Bool, true, false, IsTrue, ◌==◌, nat_le, replicate, refl, sym, ap, subst, ◌∙◌, arith, add-one, None}
 use Rattle.std.proofs.lemmas.Bool.Decides.{nat_tests}
 use Rattle.std.proofs.lemmas.List.{length-append, length-map, get_or-map, get_or_default, length-replicate, take_all}
 use Rattle.std.specs.Int.{from_bool}
-use Rattle.nor_cell.specs.Bits.{unit_len}
 use Rattle.nor_cell.specs.Chip.{ChipState, Part}
 use Rattle.nor_cell.specs.Power.{powered, locks_after}
-use Rattle.nor_cell.specs.Ranges.{IsChip}
 use Rattle.nor_cell.specs.Table.{set_of, has_locks}
 use Rattle.nor_cell.specs.Wiring.{is_wiring}
 use Rattle.nor_cell.specs.declared.device.Device.{Device}
@@ -16,13 +14,13 @@ use Rattle.nor_cell.specs.declared.device.Set.TheVariants.{Intel, Amd}
 use Rattle.nor_bus.specs.Bus.{IsBank, chip_at, no_chip}
 use Rattle.nor_io.specs.Fields.{u32_at}
 use Rattle.nor_query.specs.Derived.{table_blocks}
-use Rattle.nor_image.specs.Image.{Field, tested_field, magic_field, refusal_of, first_refusal, header_fields, fields_before, record_fields, record_place, record_end, image_refusal, trailing, is_width, width_of, device_of, device_of_code, lanes_of_file, machine_of, table_in, size_in, weak_in, cells_at, bytes_at, chip_in, part_in, chip_of_lane, IsImageOf}
-use Rattle.nor_image.specs.Written.{code_of_device, header_bytes, record_bytes, records_bytes, file_of, AreStorable, HasFields, HaveBits, Stores}
-use Rattle.nor_image.proofs.Joined.{both, join}
+use Rattle.nor_image.specs.Image.{magic_field, first_refusal, header_fields, fields_before, record_fields, record_place, image_refusal, is_width, width_of, device_of, device_of_code, lanes_of_file, machine_of, table_in, size_in, weak_in, cells_at, bytes_at, chip_in, part_in}
+use Rattle.nor_image.specs.Written.{code_of_device, header_bytes, record_bytes, records_bytes, AreStorable, Stores}
+use Rattle.nor_image.specs.Writing.{HasFields}
 use Rattle.nor_image.proofs.Putting.{records-take_more}
 use Rattle.nor_image.proofs.ReadBack.{FitsFields, SaysKept, kept_says}
 use Rattle.nor_image.proofs.Refusals.{or_none, goes_on, ends}
-use Rattle.nor_image.proofs.Rightly.{right_field, right_tested, record_right, all_below}
+use Rattle.nor_image.proofs.Accepting.{right_field, right_tested, record_right, all_below}
 use Rattle.nor_image.proofs.Standing.{Stand, stand_at, stand_behind, stand_first, stand_second}
 
 -- ---- what each record says
@@ -49,8 +47,8 @@ fits_fields chip small has =
           let same = get_or_default chip.part.weak k d 0 below in
           let less = all_below (length chip.cells) chip.part.weak k has.ranges.weak below in
           omega arith;
-      suspends_fit = has.numbers.suspends;
-      erases_fit = has.numbers.erases;
+      suspends_fit = has.numbers.suspends_fit;
+      erases_fit = has.numbers.erases_fit;
       table = has.ranges.table_size;
       size = omega arith;
     }

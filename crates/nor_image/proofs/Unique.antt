@@ -1,5 +1,5 @@
 -- A file that stands for a bank is the file of that bank, byte by byte.
-use Rattle.std.proofs.Common.{◌≡◌, ◌<◌, ◌≤◌, ℕ, ◌+◌, ◌*◌, ◌/◌, ◌%◌, ◌^◌, zero, suc, List, [], ◌∷◌, ◌++◌, length, take, drop, map, slice_index, get_or, Bool, true, false, IsTrue, ◌==◌, nat_le, nat_lt, nat_eq, codes, min, refl, sym, ap, subst, ◌∙◌, arith, add-one, append-nil, if◌then◌else◌, Option, Some, None}
+use Rattle.std.proofs.Common.{◌≡◌, ◌<◌, ◌≤◌, ℕ, ◌+◌, ◌*◌, ◌/◌, ◌%◌, zero, suc, List, [], ◌∷◌, ◌++◌, length, take, drop, slice_index, get_or, Bool, true, false, ◌==◌, nat_le, nat_lt, nat_eq, codes, refl, sym, ap, subst, ◌∙◌, arith, add-one, if◌then◌else◌, Option, Some, None}
 use Rattle.std.proofs.lemmas.Bool.Decides.{nat_tests}
 use Rattle.std.proofs.lemmas.Grind.{flat_map-append}
 use Rattle.std.proofs.lemmas.List.{length-append, length-take, length-drop, drop_more, take_all}
@@ -8,10 +8,10 @@ use Rattle.std.specs.Int.{w16, w32, to_le_bytes, from_bool}
 use Rattle.std.specs.List.{starts_with}
 use Rattle.std.specs.Option.{option_or}
 use Rattle.nor_cell.specs.Bits.{AreBytes}
-use Rattle.nor_cell.specs.Chip.{ChipState, Part}
+use Rattle.nor_cell.specs.Chip.{ChipState}
 use Rattle.nor_cell.specs.declared.device.Device.{Device}
 use Rattle.nor_cell.specs.declared.device.Set.{Set}
-use Rattle.nor_bus.specs.Bus.{chip_at, no_chip}
+use Rattle.nor_bus.specs.Bus.{chip_at}
 use Rattle.nor_io.specs.Fields.{u16_at, u32_at}
 use Rattle.nor_image.specs.Image.{Field, any_field, tested_field, magic_field, refusal_of, first_refusal, bytes_at, width_of, device_of, device_of_code, lanes_of_file, machine_of, trailing, image_refusal, IsImageOf, weak_count, table_in, size_in, weak_in, weak_field_at, cells_at, record_end, record_place, record_fields, fields_before, header_fields, number_fields, table_field, size_field, weak_fields, cells_field, part_in, chip_in}
 use Rattle.nor_image.specs.declared.error.ImageError.{ImageError}

@@ -1,14 +1,7 @@
-use Rattle.std.proofs.Common.{rules, ◌≡◌, ◌<◌, ℕ, List, length, arith, subst, sym, ap, ◌∙◌}
-use Rattle.nor_cell.specs.Bits.{AreBytes}
-use Rattle.nor_cell.specs.Chip.{ChipState}
-use Rattle.nor_cell.specs.Table.{set_of}
-use Rattle.nor_cell.specs.declared.device.Device.{Device}
-use Rattle.nor_cell.specs.declared.device.Set.{Set}
-use Rattle.nor_bus.specs.Bus.{IsBank, chip_at}
-use Rattle.nor_image.specs.Image.{IsCause, IsImageOf, machine_of, lanes_of_file, device_of, width_of}
+use Rattle.std.proofs.Common.{rules, ℕ, arith, subst, sym, ◌∙◌}
+use Rattle.nor_bus.specs.Bus.{IsBank}
+use Rattle.nor_image.specs.Image.{IsCause, machine_of, lanes_of_file, device_of, width_of}
 use Rattle.nor_image.specs.Loaded.{bus_of, loaded_width}
-use Rattle.nor_image.specs.Reading.{AreChips, chips_of}
-use Rattle.nor_image.specs.Written.{AreStorable}
 use Rattle.nor_image.proofs.Images.{some_lanes, lane_0, chips_of_file, is_bank, is_image, are_storable, refusal_is}
 use Rattle.nor_image.proofs.Lanes.{header_stops}
 use Rattle.nor_image.proofs.Unique.{image_spelled}

@@ -1,10 +1,11 @@
-use Rattle.std.proofs.Common.{◌≡◌, ◌≤◌, ◌<◌, ◌^◌, ℕ, List, length, subst, sym, ap, ◌∙◌, arith}
+use Rattle.std.proofs.Common.{◌≤◌, ◌<◌, ℕ, List, length, subst, sym, arith}
 use borrow.Author.Count.{below_more}
 use Rattle.nor_cell.specs.Chip.{ChipState}
 use Rattle.nor_cell.specs.declared.device.Device.{Device}
 use Rattle.nor_bus.specs.Bus.{IsBank, chip_at}
 use Rattle.nor_bus.proofs.Sizes.{chip_size}
-use Rattle.nor_image.specs.Written.{header_bytes, record_bytes, Puts, HasFields}
+use Rattle.nor_image.specs.Written.{header_bytes, record_bytes}
+use Rattle.nor_image.specs.Writing.{Puts, HasFields}
 use Rattle.nor_image.proofs.Putting.{chips_more, record_fits, puts_all}
 use Rattle.nor_image.proofs.Storing.{file_stands}
 use Rattle.nor_image.proofs.write.fill.Goals as goal

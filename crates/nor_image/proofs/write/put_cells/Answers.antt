@@ -1,8 +1,9 @@
-use Rattle.std.proofs.Common.{◌≡◌, ◌≤◌, ◌+◌, ◌*◌, ◌++◌, ℕ, List, length, subst, ap, ◌∙◌, arith}
+use Rattle.std.proofs.Common.{◌≡◌, ◌++◌, ℕ, List, length, subst, ap, ◌∙◌, arith}
 use Rattle.std.specs.Int.{w32, to_le_bytes}
 use Rattle.nor_cell.specs.Cells.{part_of}
 use Rattle.nor_cell.specs.declared.device.Set.TheVariants.{Intel}
-use Rattle.nor_image.specs.Written.{number_bytes, place_bytes, kept_bytes, Puts}
+use Rattle.nor_image.specs.Written.{number_bytes, place_bytes, kept_bytes}
+use Rattle.nor_image.specs.Writing.{Puts}
 use Rattle.nor_image.proofs.Putting.{puts_next}
 use Rattle.nor_image.proofs.ReadBack.{length-place_bytes, length-number_bytes}
 use Rattle.nor_image.proofs.write.put_cells.Goals as goal

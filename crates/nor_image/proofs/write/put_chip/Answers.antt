@@ -1,5 +1,6 @@
-use Rattle.std.proofs.Common.{◌≡◌, ◌≤◌, ◌+◌, ◌*◌, ℕ, List, length, subst, sym, ap, arith}
-use Rattle.nor_image.specs.Written.{kept_bytes, Puts}
+use Rattle.std.proofs.Common.{ℕ, List, length, subst, sym, ap, arith}
+use Rattle.nor_image.specs.Written.{kept_bytes}
+use Rattle.nor_image.specs.Writing.{Puts}
 use Rattle.nor_image.proofs.ReadBack.{length-kept_bytes}
 use Rattle.nor_image.proofs.write.put_chip.Goals as goal
 

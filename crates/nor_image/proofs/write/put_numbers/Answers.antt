@@ -1,6 +1,6 @@
 use Rattle.std.proofs.Common.{◌≡◌, ◌++◌, [], ◌∷◌, ℕ, List, length, subst, ap, ◌∙◌, arith}
 use Rattle.std.specs.Int.{w16, to_le_bytes}
-use Rattle.nor_image.specs.Written.{Puts}
+use Rattle.nor_image.specs.Writing.{Puts}
 use Rattle.nor_image.proofs.Putting.{puts_next}
 use Rattle.nor_image.proofs.write.put_numbers.Goals as goal
 

@@ -1,5 +1,5 @@
 -- No field of a written record is refused.
-use Rattle.std.proofs.Common.{◌≡◌, ◌<◌, ◌≤◌, ℕ, ◌+◌, ◌*◌, ◌%◌, ◌^◌, zero, suc, List, [], ◌∷◌, ◌++◌, length, take, slice_index, All, get_or, Bool, true, false, IsTrue, ◌==◌, ◌&&◌, nat_lt, nat_le, if◌then◌else◌, Option, Some, None, refl, sym, ap, subst, ◌∙◌, arith}
+use Rattle.std.proofs.Common.{◌≡◌, ◌<◌, ◌≤◌, ℕ, ◌+◌, ◌%◌, zero, suc, List, [], ◌∷◌, length, slice_index, get_or, Bool, true, false, IsTrue, ◌==◌, ◌&&◌, nat_lt, nat_le, if◌then◌else◌, Some, None, refl, ap, ◌∙◌, arith}
 use Rattle.std.proofs.lemmas.Bool.Decides.{nat_tests}
 use Rattle.std.specs.Int.{from_bool}
 use Rattle.std.specs.List.{list_all}
@@ -8,9 +8,8 @@ use Rattle.nor_cell.specs.Chip.{Part}
 use Rattle.nor_cell.specs.Ranges.{is_ascending_below, begin_units}
 use Rattle.nor_cell.specs.declared.device.Device.{Device}
 use Rattle.nor_io.specs.Fields.{u32_at}
-use Rattle.nor_image.specs.Image.{Field, any_field, tested_field, refusal_of, first_refusal, number_fields, table_field, size_field, weak_field, weak_fields, weak_field_at, least_weak, is_weak_place, cells_field, record_fields, is_size_by, weak_count, table_in, size_in, weak_in, device_of}
-use Rattle.nor_image.specs.declared.error.ImageError.{ImageError}
-use Rattle.nor_image.specs.declared.error.ImageError.TheVariants.{BadHeader, Truncated}
+use Rattle.nor_image.specs.Image.{Field, any_field, tested_field, refusal_of, first_refusal, number_fields, table_field, size_field, weak_field, weak_fields, weak_field_at, least_weak, is_weak_place, cells_field, record_fields, is_size_by, weak_count, table_in, size_in, device_of}
+use Rattle.nor_image.specs.declared.error.ImageError.TheVariants.{BadHeader}
 use Rattle.nor_image.proofs.Joined.{both, join}
 use Rattle.nor_image.proofs.ReadBack.{SaysKept}
 use Rattle.nor_image.proofs.Records.{in_cells}
