@@ -1,5 +1,5 @@
 -- From the chips of all records to the bank of a file.
-use Rattle.std.proofs.Common.{◌≡◌, ◌≢◌, ◌<◌, ℕ, zero, suc, List, length, IsTrue, refl, sym, ap, subst, ◌∙◌, arith, get_or, Some, None}
+use Rattle.std.proofs.Common.{◌≡◌, ◌<◌, ℕ, zero, suc, List, length, IsTrue, sym, ap, subst, ◌∙◌, arith, get_or, Some, None}
 use Rattle.std.proofs.lemmas.List.{length-map}
 use Rattle.nor_cell.specs.Cells.{chip_of}
 use Rattle.nor_cell.specs.Chip.{ChipState}

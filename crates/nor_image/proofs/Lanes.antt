@@ -1,9 +1,8 @@
 -- Records that are read one after another.
-use Rattle.std.proofs.Common.{◌≡◌, ◌≢◌, ◌<◌, ◌≤◌, ◌⊎◌, inl, inr, ◌+◌, ◌*◌, ℕ, zero, suc, List, [], ◌∷◌, ◌++◌, length, map, IsTrue, true, false, nat_lt, refl, sym, ap, subst, ◌∙◌, arith, add-one, Some, None}
+use Rattle.std.proofs.Common.{◌≡◌, ◌≢◌, ◌<◌, ◌≤◌, ◌⊎◌, inl, inr, ◌+◌, ◌*◌, ℕ, zero, suc, List, [], ◌∷◌, ◌++◌, length, map, IsTrue, refl, sym, ap, subst, ◌∙◌, arith, add-one, Some, None}
 use Rattle.std.proofs.Math.ListN.{get_or-append}
 use Rattle.std.proofs.Math.Seq.{get_or-append_seam}
 use Rattle.std.proofs.lemmas.Bool.{cases_eq}
-use Rattle.std.proofs.lemmas.Bool.Decides.{nat_tests}
 use Rattle.std.proofs.lemmas.List.{length-append, map-append}
 use Rattle.nor_cell.specs.Bits.{AreBytes}
 use Rattle.nor_cell.specs.Cells.{chip_of}
@@ -16,7 +15,7 @@ use Rattle.nor_image.specs.Image.{first_refusal, record_fields, fields_before, h
 use Rattle.nor_image.specs.Reading.{AreStored, AreChips, chips_of}
 use Rattle.nor_image.specs.declared.error.ImageError.{ImageError}
 use Rattle.nor_image.specs.declared.error.ImageError.TheVariants.{Trailing}
-use Rattle.nor_image.proofs.Refusals.{or_none, or_some, goes_on, stops, stays}
+use Rattle.nor_image.proofs.Refusals.{or_none, or_some, goes_on, stops, stays, goes_further, ends}
 
 -- what holds of each chip holds of one more
 pushed : (n c : ℕ) (P : ℕ → ChipState → Type 0) (xs : List ChipState) (x : ChipState) → length xs ≡ n → (c < n → P c (chip_at xs c)) → P n x
@@ -90,18 +89,6 @@ unfolding image_refusal
 lane_stops file n at lanes e so below refused =
     or_some _ _ e (stays file (fields_before file) (λ k. record_fields file k (record_place file k)) (λ k. refl) e n (lanes_of_file file) below so.none
     (subst (λ (p : ℕ). first_refusal file (record_fields file n p) ≡ Some e) so.at_is refused))
-
--- the file goes on behind a place
-goes_further : (file : List ℕ) (end : ℕ) → end < length file → trailing file end ≡ Some (Trailing end)
-goes_further file end h =
-    let longer : nat_lt end (length file) ≡ true = grind (arith, nat_tests) in
-    rw longer refl
-
--- the file ends there
-pub ends : (file : List ℕ) (end : ℕ) → length file ≤ end → trailing file end ≡ None
-ends file end h =
-    let not_longer : nat_lt end (length file) ≡ false = grind (arith, nat_tests) in
-    rw not_longer refl
 
 -- bytes behind the last record
 pub trailing_stops : (file : List ℕ) (n at : ℕ) (lanes : List Cells) → LanesSoFar file n at lanes → n ≡ lanes_of_file file

@@ -1,3 +1,4 @@
+pub mod Accepting
 pub mod Images
 pub mod Joined
 pub mod Lanes
@@ -5,8 +6,8 @@ pub mod Putting
 pub mod ReadBack
 pub mod Records
 pub mod Refusals
-pub mod Rightly
 pub mod Sizes
 pub mod Standing
 pub mod Storing
+pub mod Unique
 pub mod WeakPlaces

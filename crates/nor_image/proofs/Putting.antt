@@ -1,12 +1,13 @@
 -- What is written, one piece behind the other.
-use Rattle.std.proofs.Common.{◌≡◌, ◌<◌, ◌≤◌, ℕ, ◌+◌, ◌*◌, List, ◌++◌, [], ◌∷◌, length, take, get_or, slice_index_or, refl, sym, ap, subst, ◌∙◌, arith, append_assoc, append-nil}
+use Rattle.std.proofs.Common.{◌≡◌, ◌<◌, ◌≤◌, ℕ, ◌+◌, ◌*◌, List, ◌++◌, [], ◌∷◌, length, take, get_or, refl, sym, ap, subst, ◌∙◌, arith, append_assoc, append-nil}
 use Rattle.std.proofs.lemmas.Grind.{flat_map-append}
 use Rattle.std.proofs.lemmas.List.Folds.{length-flat_map-take}
 use Rattle.std.proofs.lemmas.List.{length-append, length-take-le, take_more, take_all}
 use Rattle.std.specs.Int.{w32, to_le_bytes}
 use Rattle.nor_cell.specs.Chip.{ChipState}
 use Rattle.nor_bus.specs.Bus.{chip_at, no_chip}
-use Rattle.nor_image.specs.Written.{place_bytes, record_bytes, records_bytes, Puts}
+use Rattle.nor_image.specs.Written.{place_bytes, record_bytes, records_bytes}
+use Rattle.nor_image.specs.Writing.{Puts, HasFields}
 use Rattle.nor_image.proofs.ReadBack.{length-place_bytes}
 
 -- nothing is written
@@ -74,3 +75,8 @@ puts_all {old = old} {new = new} {end = end} head chips c all puts whole =
     let last = puts.end_is in
     let ended : length new ≤ end = omega arith in
     sym (take_all end new ended) ∙ (puts.front ∙ every)
+
+-- The header and the records of the first chips were written, each of which has its fields.
+pub record IsFilled (head : List ℕ) (chips : List ChipState) (n : ℕ) (old new : List ℕ) (at : ℕ) : Type 0 where
+  pub puts : Puts (head ++ records_bytes (take n chips)) 0 old new at
+  pub fields : (c : ℕ) → c < n → HasFields (chip_at chips c)

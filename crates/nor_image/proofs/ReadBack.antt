@@ -1,9 +1,9 @@
 -- What the fields of a record say where a written record stands.
-use Rattle.std.proofs.Common.{◌≡◌, ◌<◌, ◌≤◌, ℕ, ◌+◌, ◌*◌, ◌^◌, zero, suc, List, [], ◌∷◌, ◌++◌, length, take, slice_index, All, get_or, Bool, if◌then◌else◌, refl, sym, ap, subst, ◌∙◌, arith, add-one}
+use Rattle.std.proofs.Common.{◌≡◌, ◌<◌, ◌≤◌, ℕ, ◌+◌, ◌*◌, ◌^◌, zero, suc, List, [], ◌∷◌, ◌++◌, length, take, slice_index, All, get_or, refl, sym, ap, ◌∙◌, arith, add-one}
 use Rattle.std.proofs.lemmas.List.{length-append, take_more, take_all}
 use Rattle.std.specs.Int.{w16, w32, to_le_bytes, from_bool}
 use Rattle.nor_cell.specs.Chip.{Part}
-use Rattle.nor_io.specs.Fields.{u16_at, u32_at}
+use Rattle.nor_io.specs.Fields.{u32_at}
 use Rattle.nor_image.specs.Image.{bytes_at, weak_count, table_in, size_in, weak_in, weak_field_at, cells_at, record_end}
 use Rattle.nor_image.specs.Written.{number_bytes, place_bytes, kept_bytes}
 use Rattle.nor_image.proofs.Standing.{Stand, stand_at, stand_first, stand_second, byte_there, u16_there, u32_there}

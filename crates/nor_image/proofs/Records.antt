@@ -19,7 +19,7 @@ or_nil None = refl
 or_nil (Some e) = refl
 
 -- the parts of a record, in their order
-in_parts : (file : List ℕ) (c at : ℕ) → first_refusal file (record_fields file c at) ≡
+pub in_parts : (file : List ℕ) (c at : ℕ) → first_refusal file (record_fields file c at) ≡
     option_or (first_refusal file (number_fields file at))
     (option_or (refusal_of file (table_field at))
     (option_or (refusal_of file (size_field file c at))

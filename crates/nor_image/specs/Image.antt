@@ -11,7 +11,6 @@ use Rattle.nor_cell.specs.Wiring.{is_wiring}
 use Rattle.nor_cell.specs.declared.device.Device.{Device}
 use Rattle.nor_cell.specs.declared.device.Device.TheVariants.{X8, X16, X16Byte}
 use Rattle.nor_cell.specs.declared.device.Set.{Set}
-use Rattle.nor_cell.specs.declared.device.Set.TheVariants.{Amd}
 use Rattle.nor_bus.specs.Bus.{chip_at, no_chip}
 use Rattle.nor_io.specs.Fields.{u16_at, u32_at}
 use Rattle.nor_query.specs.Derived.{table_blocks}

@@ -2,3 +2,4 @@ pub mod Image
 pub mod Loaded
 pub mod Reading
 pub mod Written
+pub mod Writing

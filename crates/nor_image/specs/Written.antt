@@ -1,14 +1,15 @@
 -- The file of a bank, byte by byte. Numbers are little-endian.
-use Rattle.std.specs.Prelude.{◌≡◌, ◌<◌, ◌+◌, ℕ, List, [], ◌∷◌, ◌++◌, length, take, codes, Bool, if◌then◌else◌, IsTrue}
+use Rattle.std.specs.Prelude.{◌≡◌, ◌<◌, ℕ, List, [], ◌∷◌, ◌++◌, length, map, codes, IsTrue}
 use Rattle.std.specs.Int.{w16, w32, to_le_bytes, from_bool}
 use Rattle.std.specs.List.{flat_map}
 use Rattle.nor_cell.specs.Chip.{ChipState, Part}
+use Rattle.nor_cell.specs.Power.{powered}
 use Rattle.nor_cell.specs.Table.{set_of}
 use Rattle.nor_cell.specs.declared.device.Device.{Device}
 use Rattle.nor_cell.specs.declared.device.Device.TheVariants.{X8, X16, X16Byte}
 use Rattle.nor_bus.specs.Bus.{chip_at}
 use Rattle.nor_query.specs.Derived.{table_blocks}
-use Rattle.nor_image.specs.Image.{is_size_by}
+use Rattle.nor_image.specs.Image.{is_size_by, IsImageOf}
 
 abbrev pub code_of_device : Device → ℕ
 code_of_device X8 = 0
@@ -52,8 +53,6 @@ pub record AreStorable (chips : List ChipState) : Type 0 where
   pub sizes : (c : ℕ) → c < length chips → IsTrue (is_size_by (chip_at chips c).part.table (length (chip_at chips c).cells))
   pub blocks : (c : ℕ) → c < length chips → (chip_at chips c).part.blocks ≡ table_blocks (chip_at chips c).part.table
 
--- What is written goes on: behind what stands before a place, the file has these bytes now, up to its new place.
-pub record Puts (bytes : List ℕ) (at : ℕ) (old new : List ℕ) (end : ℕ) : Type 0 where
-  pub end_is : end ≡ at + length bytes
-  pub size : length new ≡ length old
-  pub front : take end new ≡ take at old ++ bytes
+-- The file stands for the bank, just powered on, where its machine, sizes and blocks are those that the format gives.
+abbrev pub Stores : List ℕ → ℕ → List ChipState → Type 0
+Stores file width chips = AreStorable chips → IsImageOf file width (map powered chips)

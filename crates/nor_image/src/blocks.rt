@@ -1,5 +1,5 @@
 //! The blocks that a query table gives.
-ghost use Rattle.std.specs.Prelude.{◌≡◌, ◌≤◌, ◌*◌, ◌^◌, length, take, IfOk, IsTrue};
+ghost use Rattle.std.specs.Prelude.{◌≡◌, IfOk, IsTrue};
 ghost use Rattle.nor_cell.specs.Ranges.{are_blocks};
 ghost use Rattle.nor_region.specs.Map.{spans_of};
 ghost use Rattle.nor_query.specs.Derived.{table_blocks};

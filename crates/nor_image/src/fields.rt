@@ -1,4 +1,4 @@
-ghost use Rattle.std.specs.Prelude.{◌≡◌, ◌≤◌, ◌<◌, ◌^◌, ◌↔◌, ℕ, length, slice_index, nat_le, IfOk, None, Some, if◌then◌else◌};
+ghost use Rattle.std.specs.Prelude.{◌≡◌, ◌≤◌, ◌<◌, ◌^◌, length, slice_index, nat_le, IfOk, None, Some, if◌then◌else◌};
 ghost use Rattle.nor_io.specs.Fields.{u16_at, u32_at};
 ghost use Rattle.nor_image.specs.Image.{any_field, tested_field, refusal_of, bytes_at};
 ghost use Rattle.nor_image.specs.Reading.{Reads};

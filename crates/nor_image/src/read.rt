@@ -4,7 +4,7 @@ ghost use Rattle.nor_bus.specs.Bus.{IsBank, lane as lane_of_bus, lanes_of};
 ghost use Rattle.nor_image.specs.Image.{header_fields, first_refusal, image_refusal, device_of, lanes_of_file, IsImageOf, IsCause};
 ghost use Rattle.nor_image.specs.Loaded.{bus_of, loaded_width, IsFreshBus};
 ghost use Rattle.nor_image.specs.Reading.{MayRead, AreLanes, chips_of};
-ghost use Rattle.nor_image.specs.Written.{AreStorable};
+ghost use Rattle.nor_image.specs.Written.{file_of, AreStorable};
 
 use crate::header::read_header;
 use crate::record::{FIRST_RECORD, FIXED_PART, read_record};
@@ -99,13 +99,20 @@ fn power_up(
 /// it begins, or `BadMagic` or `SizeDiffers`, and bytes behind the last record are `Trailing`.
 pub fn read_image(alloc: Global, file: &[u8]) -> Result<Loaded, ImageError>
     requires { length file.now ≤ 2 ^ 30 }
-    ensures image { IfOk result (λ loaded. IsImageOf file.now (loaded_width loaded) (bus_of loaded).lanes) }
+    ensures image { IfOk result (λ loaded.
+        IsImageOf file.now (loaded_width loaded) (bus_of loaded).lanes) }
     ensures fresh { IfOk result (λ loaded. IsFreshBus (bus_of loaded)) }
     ensures refused { IfErr result (IsCause file.now) }
 
+    // The file is that of the bank, byte by byte.
+    ensures file { IfOk result (λ loaded.
+        file.now ≡ file_of (loaded_width loaded) (bus_of loaded).lanes) }
+
     // What holds of each bank that was loaded.
-    ensures wired { IfOk result (λ loaded. IsBank (loaded_width loaded) (device_of file.now) (bus_of loaded).lanes) }
-    ensures bytes { IfOk result (λ loaded. (c : ℕ) → c < lanes_of (bus_of loaded) → AreBytes (lane_of_bus (bus_of loaded) c).cells) }
+    ensures wired { IfOk result (λ loaded.
+        IsBank (loaded_width loaded) (device_of file.now) (bus_of loaded).lanes) }
+    ensures bytes { IfOk result (λ loaded. (c : ℕ) → c < lanes_of (bus_of loaded)
+        → AreBytes (lane_of_bus (bus_of loaded) c).cells) }
     ensures storable { IfOk result (λ loaded. AreStorable (bus_of loaded).lanes) }
 {
     let header = read_header(file)?;

@@ -17,8 +17,8 @@ use std::alloc::Global;
 /// Where the record of lane 0 begins.
 pub const FIRST_RECORD: usize = 12;
 
-// Where a record has its query table.
-const TABLE: usize = 20;
+/// Where a record has its query table, behind the numbers that it says first.
+pub const TABLE: usize = 20;
 
 // Where a record has its chip's size.
 const SIZE: usize = 532;

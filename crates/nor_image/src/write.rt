@@ -1,12 +1,13 @@
-ghost use Rattle.std.specs.Prelude.{◌≡◌, ◌<◌, ◌≤◌, ◌+◌, ◌*◌, ◌^◌, ℕ, length, map, IfOk};
+ghost use Rattle.std.specs.Prelude.{◌≡◌, ◌<◌, ◌≤◌, ◌+◌, ◌*◌, ◌^◌, length, IfOk};
 ghost use Rattle.nor_cell.specs.Cells.{part_of};
-ghost use Rattle.nor_cell.specs.Chip.{ChipState};
-ghost use Rattle.nor_bus.specs.Bus.{lanes_of, lane as lane_state};
-ghost use Rattle.nor_image.specs.Image.{IsImageOf};
-ghost use Rattle.nor_image.specs.Written.{code_of_device, header_bytes, number_bytes, place_bytes, kept_bytes, record_bytes, records_bytes, file_of, Puts};
+ghost use Rattle.nor_bus.specs.Bus.{IsWired, lanes_of, lane as lane_state};
+ghost use Rattle.nor_image.specs.Loaded.{bus_of, loaded_width};
+ghost use Rattle.nor_image.specs.Written.{code_of_device, header_bytes, place_bytes, record_bytes, file_of, Stores};
+ghost use Rattle.nor_image.specs.Writing.{numbers_of, record_of, Puts, HasNumbers, HasFields};
 
 use crate::header::MAGIC;
-use crate::record::{FIRST_RECORD, FIXED_PART};
+use crate::record::{FIRST_RECORD, FIXED_PART, TABLE};
+use crate::{Loaded, with_bank};
 use nor_bus::{Bus, SimBank, lane_bytes};
 use nor_cell::{Cells, Chip, Device, NoMemory, Set};
 use nor_word::BusWord;
@@ -33,7 +34,7 @@ fn code_of_device(device: Device) -> u8
 }
 
 fn put_header(file: &mut [u8], width: u8, device: Device, lanes: u8) -> usize
-    requires { 12 ≤ length file.old }
+    requires { FIRST_RECORD ≤ length file.old }
     ensures { Puts (header_bytes width device lanes) 0 file.old file.new result }
 {
     let at = put(file, 0, MAGIC);
@@ -42,8 +43,9 @@ fn put_header(file: &mut [u8], width: u8, device: Device, lanes: u8) -> usize
 
 // What a record says first.
 fn put_numbers(file: &mut [u8], at: usize, cells: &Cells) -> usize
-    requires { at + 20 ≤ length file.old }
-    ensures { Puts (number_bytes (part_of Set.Intel cells.now) cells.now.suspends cells.now.erases) at file.old file.new result }
+    requires { at + TABLE ≤ length file.old }
+    ensures bits { HasNumbers (part_of Set.Intel cells.now) cells.now.suspends cells.now.erases }
+    ensures numbers { Puts (numbers_of cells.now) at file.old file.new result }
 {
     let at = put(file, at, &cells.pace_program.to_le_bytes());
     let at = put(file, at, &cells.pace_erase.to_le_bytes());
@@ -66,8 +68,10 @@ fn put_places(file: &mut [u8], at: usize, places: &[u32]) -> usize
 
 // The record of a chip with these cells.
 fn put_cells(file: &mut [u8], at: usize, cells: &Cells) -> usize
-    requires { at + (536 + 4 * length cells.now.weak.items + length cells.now.bytes.items) ≤ length file.old }
-    ensures { Puts (kept_bytes (part_of Set.Intel cells.now) cells.now.bytes.items cells.now.suspends cells.now.erases) at file.old file.new result }
+    requires { let len = FIXED_PART + 4 * length cells.now.weak.items + length cells.now.bytes.items in
+        at + len ≤ length file.old }
+    ensures bits { HasNumbers (part_of Set.Intel cells.now) cells.now.suspends cells.now.erases }
+    ensures kept { Puts (record_of cells.now) at file.old file.new result }
 {
     let at = put_numbers(file, at, cells);
     let at = put(file, at, &cells.table);
@@ -78,7 +82,8 @@ fn put_cells(file: &mut [u8], at: usize, cells: &Cells) -> usize
 
 fn put_chip<C: Chip>(file: &mut [u8], at: usize, chip: &C) -> usize
     requires { at + length (record_bytes (C.state chip.now)) ≤ length file.old }
-    ensures { Puts (record_bytes (C.state chip.now)) at file.old file.new result }
+    ensures fields { HasFields (C.state chip.now) }
+    ensures bytes { Puts (record_bytes (C.state chip.now)) at file.old file.new result }
 {
     put_cells(file, at, chip.cells())
 }
@@ -92,6 +97,7 @@ fn record_len<C: Chip>(chip: &C) -> usize
     FIXED_PART + 4 * cells.weak.len() + cells.bytes.len()
 }
 
+// The device of all its chips.
 fn device_of<W: BusWord, C: Chip + Drop>(bank: &SimBank<W, C>) -> Device
     requires { 0 < lanes_of bank.now }
     ensures { result ≡ (lane_state bank.now 0).part.device }
@@ -104,7 +110,9 @@ fn lanes_of<W: BusWord, C: Chip + Drop>(bank: &SimBank<W, C>) -> u8
     ensures value { result ≡ lanes_of bank.now }
     ensures some { 0 < result }
     ensures few { result ≤ 4 }
+    ensures wired { IsWired W.WIDTH bank.now }
 {
+    // Every bus says that its chips fill its word.
     let _ = bank.units();
     W::WIDTH / lane_bytes(device_of(bank))
 }
@@ -120,9 +128,11 @@ fn file_len<W: BusWord, C: Chip + Drop>(bank: &SimBank<W, C>) -> usize
     len
 }
 
+// Puts the file of a bank over the bytes of a slice.
 fn fill<W: BusWord, C: Chip + Drop>(bank: &SimBank<W, C>, file: &mut [u8])
     requires { length file.old ≡ length (file_of W.WIDTH bank.now.lanes) }
-    ensures { file.new ≡ file_of W.WIDTH bank.now.lanes }
+    ensures file { file.new ≡ file_of W.WIDTH bank.now.lanes }
+    ensures stands { Stores file.new W.WIDTH bank.now.lanes }
 {
     let lanes = lanes_of(bank);
     let mut at = put_header(file, W::WIDTH, device_of(bank), lanes);
@@ -131,10 +141,36 @@ fn fill<W: BusWord, C: Chip + Drop>(bank: &SimBank<W, C>, file: &mut [u8])
     }
 }
 
-fn write<W: BusWord, C: Chip + Drop>(alloc: Global, bank: &SimBank<W, C>) -> Result<Vec<u8>, NoMemory>
-    ensures { IfOk result (λ file. file.items ≡ file_of W.WIDTH bank.now.lanes) }
+fn write<W: BusWord, C: Chip + Drop>(
+    alloc: Global,
+    bank: &SimBank<W, C>,
+) -> Result<Vec<u8>, NoMemory>
+    ensures file { IfOk result (λ file. file.items ≡ file_of W.WIDTH bank.now.lanes) }
+    ensures stands { IfOk result (λ file. Stores file.items W.WIDTH bank.now.lanes) }
 {
     let mut file = vec![in alloc; 0; file_len(bank)]?;
     fill(bank, &mut file);
     Ok(file)
+}
+
+/// The file of a bank. Locks, modes and jobs aren't in it: it stands for the bank as it would be
+/// just powered on, where the bank is one that a file can store: its chips' set is the one that lane
+/// 0's table names, and each chip's size and blocks are those of its own table.
+pub fn write_image(alloc: Global, bank: &Loaded) -> Result<Vec<u8>, NoMemory>
+    ensures file { IfOk result (λ file.
+        file.items ≡ file_of (loaded_width bank.now) (bus_of bank.now).lanes) }
+    ensures stands { IfOk result (λ file.
+        Stores file.items (loaded_width bank.now) (bus_of bank.now).lanes) }
+{
+    with_bank!(bank, bank => write(alloc, bank))
+}
+
+/// The same in place of the bytes of a slice, which has the file's length. It takes no memory.
+pub fn fill_image(bank: &Loaded, file: &mut [u8])
+    requires { length file.old
+        ≡ length (file_of (loaded_width bank.now) (bus_of bank.now).lanes) }
+    ensures file { file.new ≡ file_of (loaded_width bank.now) (bus_of bank.now).lanes }
+    ensures stands { Stores file.new (loaded_width bank.now) (bus_of bank.now).lanes }
+{
+    with_bank!(bank, bank => fill(bank, file))
 }

@@ -1,4 +1,4 @@
-use Rattle.std.proofs.Common.{◌≡◌, ◌≤◌, ◌+◌, ◌^◌, ℕ, List, IsTrue, IfOk, true, sym, ap, subst, ◌∙◌, arith, rules}
+use Rattle.std.proofs.Common.{◌≡◌, ◌≤◌, ◌+◌, ◌^◌, ℕ, List, IsTrue, true, sym, ap, subst, arith, rules}
 use Rattle.nor_cell.specs.Ranges.{are_blocks, follow_to}
 use Rattle.nor_cell.specs.Table.{field_8}
 use Rattle.nor_cell.specs.declared.device.Span.{Span}

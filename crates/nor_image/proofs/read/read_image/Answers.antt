@@ -1,16 +1,10 @@
-use Rattle.std.proofs.Common.{rules, ◌≡◌, ◌<◌, ℕ, List, length, arith, subst, sym, ap, ◌∙◌}
-use Rattle.nor_cell.specs.Bits.{AreBytes}
-use Rattle.nor_cell.specs.Chip.{ChipState}
-use Rattle.nor_cell.specs.Table.{set_of}
-use Rattle.nor_cell.specs.declared.device.Device.{Device}
-use Rattle.nor_cell.specs.declared.device.Set.{Set}
-use Rattle.nor_bus.specs.Bus.{IsBank, chip_at}
-use Rattle.nor_image.specs.Image.{IsCause, IsImageOf, machine_of, lanes_of_file, device_of, width_of}
+use Rattle.std.proofs.Common.{rules, ℕ, arith, subst, sym, ◌∙◌}
+use Rattle.nor_bus.specs.Bus.{IsBank}
+use Rattle.nor_image.specs.Image.{IsCause, machine_of, lanes_of_file, device_of, width_of}
 use Rattle.nor_image.specs.Loaded.{bus_of, loaded_width}
-use Rattle.nor_image.specs.Reading.{AreChips, chips_of}
-use Rattle.nor_image.specs.Written.{AreStorable}
 use Rattle.nor_image.proofs.Images.{some_lanes, lane_0, chips_of_file, is_bank, is_image, are_storable, refusal_is}
 use Rattle.nor_image.proofs.Lanes.{header_stops}
+use Rattle.nor_image.proofs.Unique.{image_spelled}
 use Rattle.nor_image.proofs.read.read_image.Goals as goal
 
 pub returns-in_err-header-clause-refused : goal.returns-in_err-header-clause-refused
@@ -48,3 +42,12 @@ returns-clause-storable c =
     let chips = chips_of_file c.args.file.now c.in_ok-lanes.lanes.items c.index.result.now c.set_of-set.result (bus_of c.in_ok-loaded.loaded).lanes
     c.in_ok-lanes.ensures.1 some c.index.ensures c.set_of-set.ensures c.in_ok-loaded.ensures.lanes in
     are_storable c.args.file.now (bus_of c.in_ok-loaded.loaded).lanes chips some
+
+pub returns-clause-file : goal.returns-clause-file
+returns-clause-file c =
+    let header = c.in_ok-header.ensures.1 in
+    let some = some_lanes (width_of c.args.file.now) (lanes_of_file c.args.file.now) (device_of c.args.file.now) header.wired in
+    let chips = chips_of_file c.args.file.now c.in_ok-lanes.lanes.items c.index.result.now c.set_of-set.result (bus_of c.in_ok-loaded.loaded).lanes
+    c.in_ok-lanes.ensures.1 some c.index.ensures c.set_of-set.ensures c.in_ok-loaded.ensures.lanes in
+    let image = is_image c.args.file.now (loaded_width c.in_ok-loaded.loaded) (bus_of c.in_ok-loaded.loaded).lanes chips c.in_ok-lanes.ensures.0 (c.in_ok-loaded.ensures.width ∙ header.width) in
+    image_spelled c.args.file.now (loaded_width c.in_ok-loaded.loaded) (bus_of c.in_ok-loaded.loaded).lanes (search rules) image (omega (arith, some, image.count))

@@ -1,5 +1,6 @@
-use Rattle.std.proofs.Common.{◌≡◌, ◌≤◌, ◌+◌, ◌*◌, ℕ, List, length, subst, sym, ap, arith}
-use Rattle.nor_image.specs.Written.{kept_bytes, Puts}
+use Rattle.std.proofs.Common.{ℕ, List, length, subst, sym, ap, arith}
+use Rattle.nor_image.specs.Written.{kept_bytes}
+use Rattle.nor_image.specs.Writing.{Puts}
 use Rattle.nor_image.proofs.ReadBack.{length-kept_bytes}
 use Rattle.nor_image.proofs.write.put_chip.Goals as goal
 
@@ -12,9 +13,9 @@ put_cells-requires g c =
     let room = c.requires in
     omega arith
 
-pub returns : goal.returns
+pub returns-clause-bytes : goal.returns-clause-bytes
 unfolding kept_bytes
-returns g c =
+returns-clause-bytes g c =
     let is = c.cells.ensures.cells in
     subst (λ (bytes : List ℕ). Puts bytes c.args.at c.args.file.now c.put_cells.new.file c.put_cells.result)
-    (sym (λ i. kept_bytes (is.part i) (is.bytes i) (is.suspends i) (is.erases i))) c.put_cells.ensures
+    (sym (λ i. kept_bytes (is.part i) (is.bytes i) (is.suspends i) (is.erases i))) c.put_cells.ensures.kept

@@ -1,6 +1,7 @@
-use Rattle.std.proofs.Common.{◌≡◌, ◌≤◌, ◌+◌, ◌*◌, ℕ, List, length, get_or, refl, subst, ap, arith}
+use Rattle.std.proofs.Common.{◌≡◌, ℕ, List, length, get_or, refl, subst, ap, arith}
 use Rattle.std.proofs.lemmas.List.{take_all}
-use Rattle.nor_image.specs.Written.{place_bytes, Puts}
+use Rattle.nor_image.specs.Written.{place_bytes}
+use Rattle.nor_image.specs.Writing.{Puts}
 use Rattle.nor_image.proofs.Putting.{places_more, length-first_places, puts_none}
 use Rattle.nor_image.proofs.write.put_places.Goals as goal
 

@@ -1,5 +1,6 @@
 use Rattle.std.proofs.Common.{take}
-use Rattle.nor_image.specs.Written.{place_bytes, Puts}
+use Rattle.nor_image.specs.Written.{place_bytes}
+use Rattle.nor_image.specs.Writing.{Puts}
 use Rattle.nor_image.proofs.write.put_places.Given as goal
 
 abbrev pub invariant-loop-place : goal.invariant-loop-place

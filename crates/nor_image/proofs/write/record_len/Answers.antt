@@ -1,6 +1,4 @@
 use Rattle.std.proofs.Common.{◌≡◌, ◌+◌, ◌*◌, length, ap, sym, ◌∙◌, arith}
-use Rattle.nor_cell.specs.Cells.{chip_of}
-use Rattle.nor_image.specs.Written.{kept_bytes}
 use Rattle.nor_image.proofs.ReadBack.{length-kept_bytes}
 use Rattle.nor_image.proofs.write.record_len.Goals as goal
 

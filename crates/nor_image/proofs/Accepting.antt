@@ -1,5 +1,5 @@
 -- No field of a written record is refused.
-use Rattle.std.proofs.Common.{◌≡◌, ◌<◌, ◌≤◌, ℕ, ◌+◌, ◌*◌, ◌%◌, ◌^◌, zero, suc, List, [], ◌∷◌, ◌++◌, length, take, slice_index, All, get_or, Bool, true, false, IsTrue, ◌==◌, ◌&&◌, nat_lt, nat_le, if◌then◌else◌, Option, Some, None, refl, sym, ap, subst, ◌∙◌, arith}
+use Rattle.std.proofs.Common.{◌≡◌, ◌<◌, ◌≤◌, ℕ, ◌+◌, ◌%◌, zero, suc, List, [], ◌∷◌, length, slice_index, get_or, Bool, true, false, IsTrue, ◌==◌, ◌&&◌, nat_lt, nat_le, if◌then◌else◌, Some, None, refl, ap, ◌∙◌, arith}
 use Rattle.std.proofs.lemmas.Bool.Decides.{nat_tests}
 use Rattle.std.specs.Int.{from_bool}
 use Rattle.std.specs.List.{list_all}
@@ -8,21 +8,20 @@ use Rattle.nor_cell.specs.Chip.{Part}
 use Rattle.nor_cell.specs.Ranges.{is_ascending_below, begin_units}
 use Rattle.nor_cell.specs.declared.device.Device.{Device}
 use Rattle.nor_io.specs.Fields.{u32_at}
-use Rattle.nor_image.specs.Image.{Field, any_field, tested_field, refusal_of, first_refusal, number_fields, table_field, size_field, weak_field, weak_fields, weak_field_at, least_weak, is_weak_place, cells_field, record_fields, is_size_by, weak_count, table_in, size_in, weak_in, device_of}
-use Rattle.nor_image.specs.declared.error.ImageError.{ImageError}
-use Rattle.nor_image.specs.declared.error.ImageError.TheVariants.{BadHeader, Truncated}
+use Rattle.nor_image.specs.Image.{Field, any_field, tested_field, refusal_of, first_refusal, number_fields, table_field, size_field, weak_field, weak_fields, weak_field_at, least_weak, is_weak_place, cells_field, record_fields, is_size_by, weak_count, table_in, size_in, device_of}
+use Rattle.nor_image.specs.declared.error.ImageError.TheVariants.{BadHeader}
 use Rattle.nor_image.proofs.Joined.{both, join}
 use Rattle.nor_image.proofs.ReadBack.{SaysKept}
 use Rattle.nor_image.proofs.Records.{in_cells}
 use Rattle.nor_image.proofs.Refusals.{or_none, goes_on}
 
 -- a field that is whole and right isn't refused
-right_field : (file : List ℕ) (field : Field) → field.at + field.size ≤ length file → field.bad ≡ None → refusal_of file field ≡ None
+pub right_field : (file : List ℕ) (field : Field) → field.at + field.size ≤ length file → field.bad ≡ None → refusal_of file field ≡ None
 right_field file field whole right =
     let enough : nat_lt (length file) (field.at + field.size) ≡ false = grind (arith, nat_tests) in
     rw enough right
 
-right_tested : (file : List ℕ) (at size : ℕ) (valid : Bool) → at + size ≤ length file → valid ≡ true → refusal_of file (tested_field at size valid) ≡ None
+pub right_tested : (file : List ℕ) (at size : ℕ) (valid : Bool) → at + size ≤ length file → valid ≡ true → refusal_of file (tested_field at size valid) ≡ None
 right_tested file at size valid whole right =
     right_field file (tested_field at size valid) whole (ap (λ (b : Bool). if b then None else Some (BadHeader at)) right)
 
@@ -34,7 +33,7 @@ next_above n (x ∷ y ∷ ys) zero h below =
     let first : nat_lt x y ≡ true = (both (nat_lt x y) (is_ascending_below n (y ∷ ys)) h).0 in grind (arith, nat_tests)
 next_above n (x ∷ y ∷ ys) (suc k) h below = next_above n (y ∷ ys) k (both (nat_lt x y) (is_ascending_below n (y ∷ ys)) h).1 (omega arith)
 
-all_below : (n : ℕ) (xs : List ℕ) (k : ℕ) → IsTrue (is_ascending_below n xs) → k < length xs → get_or xs k 0 < n
+pub all_below : (n : ℕ) (xs : List ℕ) (k : ℕ) → IsTrue (is_ascending_below n xs) → k < length xs → get_or xs k 0 < n
 all_below n [] k h below = absurd (omega arith)
 all_below n (x ∷ []) zero h below = (let first : nat_lt x n ≡ true = h in grind (arith, nat_tests))
 all_below n (x ∷ []) (suc k) h below = absurd (omega arith)
