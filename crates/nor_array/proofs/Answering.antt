@@ -17,6 +17,7 @@ use Rattle.nor_array.specs.declared.entry.Op.TheVariants.{Read, Program, EraseOp
 use Rattle.nor_array.specs.declared.entry.Reply.{Reply}
 use Rattle.nor_array.specs.declared.entry.Reply.TheVariants.{Done, Opened, Erased, Bit, Locked, Failed}
 use Rattle.nor_array.specs.declared.entry.Entry.{Entry}
+use Rattle.nor_array.proofs.Edits.{all_old}
 use Rattle.nor_array.proofs.Puts.{AreBytes-ones}
 
 -- a span that passes one test passes the other
@@ -71,13 +72,6 @@ changes_past old at new span true true ends is =
     let found = changes_in old at new span is in
     let before = leb-true (span_end span) at ends in
     absurd (omega arith)
-
--- a program may leave each byte as it is
-all_old : (old new : List ℕ) → AllBetween old new old
-all_old old new = record {
-  size = refl;
-  each = λ k less. record { clears_only = and_self (slice_index old k); keeps = ap (λ x. bit_and x (slice_index new k)) (and_self (slice_index old k)) };
-}
 
 -- what a call of the chips may be told, and the bytes with it
 record Told (a : ArrayState) (op : Op) : Type 0 where
