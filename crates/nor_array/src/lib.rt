@@ -18,5 +18,5 @@ pub use bytes::{Bytes, make_bytes};
 pub use change::apply;
 pub use entry::{Entry, Halted, Op, Reply};
 pub use laws::{calls_are_answered, entries_change_what_they_name, histories_grow_at_the_end};
-pub use refuse::{MAX_LEN, refusal};
+pub use refuse::MAX_LEN;
 pub use state::{ArmedCut, OpenErase, Power};
