@@ -11,6 +11,8 @@ mod laws;
 mod program;
 mod refuse;
 mod state;
+#[cfg(test)]
+mod tests;
 
 pub use admit::admits;
 pub use array::{Consts, PlainArray, bytes_of, plain};
