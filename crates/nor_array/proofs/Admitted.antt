@@ -2,10 +2,11 @@
 use Rattle.std.proofs.Common.{◌≡◌, ◌<◌, ◌≤◌, ◌+◌, ◌-◌, ℕ, List, [], ◌∷◌, length, take, drop, refl, sym, subst, ap, arith, ◌∙◌, Bool, true, false, ◌⊎◌, inl, inr, Option, Some, None}
 use Rattle.std.specs.Prelude.{not, ◌&&◌, nat_lt, if◌then◌else◌}
 use Rattle.std.proofs.lemmas.Bool.{leb-false, ltb-false}
+use Rattle.std.proofs.lemmas.Option.{same_Some}
 use Rattle.std.proofs.lemmas.List.{length-take, length-drop}
 use Rattle.nor_array.specs.Array.{ArrayState, IsArray, range, open_span}
 use Rattle.nor_array.specs.Refusals.{refusal, first_some, when, kept_halt, while_open, touches, opens_erase, is_outside, is_too_long, has_nothing, needs_locks}
-use Rattle.nor_array.specs.Admits.{Admits, Answers, Unrefused, AsksChips, HaltLeaves, ProgramLeaves, AreUncertain, AllBetween, needs_no_chip, first_locked}
+use Rattle.nor_array.specs.Admits.{Admits, Answers, Unrefused, AsksChips, EndsUnlocked, Ends, FailsWithin, FailsWhole, HaltLeaves, ProgramLeaves, AreUncertain, AllBetween, needs_no_chip, first_locked}
 use Rattle.nor_array.specs.Fits.{HaltFits, HaltIsWhole, LeftFits}
 use Rattle.nor_array.specs.declared.state.OpenErase.{OpenErase}
 use Rattle.nor_array.specs.declared.state.Power.{Power}
@@ -13,11 +14,12 @@ use Rattle.nor_array.specs.declared.state.Power.TheVariants.{On, Off, Stuck}
 use Rattle.nor_array.specs.declared.entry.Op.{Op}
 use Rattle.nor_array.specs.declared.entry.Op.TheVariants.{Read, Program, EraseOpen, Poll, Lock, Unlock, IsLocked, Arm, PowerOn}
 use Rattle.nor_array.specs.declared.entry.Reply.{Reply}
-use Rattle.nor_array.specs.declared.entry.Reply.TheVariants.{Done, OutOfRange, TooLong, Nothing, NoLocks, Busy, Occupied, Halted as HaltedReply}
+use Rattle.nor_array.specs.declared.entry.Reply.TheVariants.{Done, OutOfRange, TooLong, Nothing, NoLocks, Busy, Occupied, Failed, Halted as HaltedReply}
 use Rattle.nor_array.specs.declared.entry.Halted.{Halted}
 use Rattle.nor_array.specs.declared.entry.Halted.TheVariants.{Off as OffHalt, Stuck as StuckHalt}
 use Rattle.nor_array.specs.declared.entry.Entry.{Entry}
 use Rattle.nor_array.proofs.Puts.{length-range}
+use Rattle.nor_array.proofs.Refused.{HoldsOfEach, refusal_is}
 
 -- the reply is the refusal, or there is none
 split : (refused : Option Reply) (a : ArrayState) (e : Entry) → Answers refused e a
@@ -44,35 +46,53 @@ unrefused_inside a caller op none = first_fails (is_outside a op) OutOfRange
     ∷ when (needs_locks op && not a.consts.has_locks) NoLocks
     ∷ []) none
 
-abbrev is_halt : Option Reply → Bool
-is_halt (Some (HaltedReply cause)) = true
-is_halt _ = false
+-- a call that isn't told OutOfRange lies inside
+inside_by : (holds : Bool) (reply : Reply) (later : List (Option Reply)) → first_some (when holds OutOfRange ∷ later) ≡ Some reply → (OutOfRange ≡ reply → ⊥) → holds ≡ false
+inside_by true reply later is not_out = absurd (not_out (same_Some OutOfRange reply is))
+inside_by false reply later is not_out = refl
 
--- While power is on, no refusal is a halt.
-open_halts : (a : ArrayState) (op : Op) (under : Option OpenErase) → is_halt (while_open under a op) ≡ false
-open_halts a op None = refl
-open_halts a op (Some open_erase) = elim (touches a op open_erase.block) as (λ t. is_halt (if t then Some (Busy open_erase.block) else if opens_erase op then Some (Occupied open_erase.block) else None) ≡ false) [
-  | true ↦ refl
-  | false ↦ elim (opens_erase op) as (λ t. is_halt (if t then Some (Occupied open_erase.block) else None) ≡ false) [
-    | true ↦ refl
-    | false ↦ refl
-  ]
+pub admitted_inside : (a : ArrayState) (e : Entry) → Admits a e → (OutOfRange ≡ e.reply → ⊥) → is_outside a e.op ≡ false
+admitted_inside a e admits not_out = elim (admitted a e admits) [
+  | inl refused ↦ inside_by (is_outside a e.op) e.reply
+      (when (is_too_long e.op) TooLong
+      ∷ kept_halt a.power a.armed e.op
+      ∷ when (has_nothing a e.caller e.op) Nothing
+      ∷ while_open a.under a e.op
+      ∷ when (needs_locks e.op && not a.consts.has_locks) NoLocks
+      ∷ []) refused.0 not_out
+  | inr free ↦ unrefused_inside a e.caller e.op free.0
 ]
 
-no_halt : (outside long nothing locks : Bool) (open_reply : Option Reply) → is_halt open_reply ≡ false
-    → is_halt (first_some (when outside OutOfRange ∷ when long TooLong ∷ None ∷ when nothing Nothing ∷ open_reply ∷ when locks NoLocks ∷ [])) ≡ false
-no_halt true long nothing locks open_reply same = refl
-no_halt false true nothing locks open_reply same = refl
-no_halt false false true locks open_reply same = refl
-no_halt false false false locks (Some reply) same = same
-no_halt false false false true None same = refl
-no_halt false false false false None same = refl
+-- While power is on, no refusal is a halt, and none ever is a failure.
+abbrev is_halt : Reply → Bool
+is_halt (HaltedReply cause) = true
+is_halt _ = false
 
-refusal_halts : (a : ArrayState) (caller : ℕ) (op : Op) → a.power ≡ On → is_halt (refusal a caller op) ≡ false
-refusal_halts a caller op on =
-    let kept : kept_halt a.power a.armed op ≡ None = ap (λ p. kept_halt p a.armed op) on in
-    let P : Option Reply → Type 0 = λ halt. is_halt (first_some (when (is_outside a op) OutOfRange ∷ when (is_too_long op) TooLong ∷ halt ∷ when (has_nothing a caller op) Nothing ∷ while_open a.under a op ∷ when (needs_locks op && not a.consts.has_locks) NoLocks ∷ [])) ≡ false in
-    subst P (sym kept) (no_halt (is_outside a op) (is_too_long op) (has_nothing a caller op) (needs_locks op && not a.consts.has_locks) (while_open a.under a op) (open_halts a op a.under))
+no_halts : (power : Power) → power ≡ On → HoldsOfEach (λ reply. is_halt reply ≡ false) power
+no_halts power on = record {
+  out_of_range = refl;
+  too_long = refl;
+  halted = λ cause not_on. absurd (not_on on);
+  nothing = refl;
+  busy = λ b. refl;
+  occupied = λ b. refl;
+  no_locks = refl;
+}
+
+abbrev is_failure : Reply → Bool
+is_failure (Failed from to lanes) = true
+is_failure _ = false
+
+no_failures : (power : Power) → HoldsOfEach (λ reply. is_failure reply ≡ false) power
+no_failures power = record {
+  out_of_range = refl;
+  too_long = refl;
+  halted = λ cause not_on. refl;
+  nothing = refl;
+  busy = λ b. refl;
+  occupied = λ b. refl;
+  no_locks = refl;
+}
 
 -- so a halt has the bytes that a halt leaves
 chips_halt : (reply : Reply) (cause : Halted) (op : Op) (a : ArrayState) (bytes : List ℕ) → reply ≡ HaltedReply cause → AsksChips reply op a bytes → HaltLeaves op a bytes
@@ -87,10 +107,44 @@ pub admitted_halt : (a : ArrayState) (e : Entry) (cause : Halted) → Admits a e
     → HaltLeaves e.op a e.bytes × (is_outside a e.op ≡ false)
 admitted_halt a e cause admits same on = elim (admitted a e admits) [
   | inl refused ↦
-      let halt : is_halt (refusal a e.caller e.op) ≡ true = ap is_halt (refused.0 ∙ ap (λ r. Some r) same) in
-      let none = refusal_halts a e.caller e.op on in
-      absurd (let no : true ≡ false = sym halt ∙ none in cc)
+      let none : is_halt e.reply ≡ false = refusal_is (λ reply. is_halt reply ≡ false) a e.caller e.op (no_halts a.power on) e.reply refused.0 in
+      absurd (let no : true ≡ false = sym (ap is_halt same) ∙ none in cc)
   | inr free ↦ (unrefused_halt (needs_no_chip e.op) e cause a same free.1, unrefused_inside a e.caller e.op free.0)
+]
+
+-- and a failure fits its call
+abbrev pub FailureFits : Op → ArrayState → (from to : ℕ) → List ℕ → Type 0
+FailureFits (Program at new) a from to bytes = FailsWithin a at new from to bytes
+FailureFits Poll a from to bytes = FailsWhole a from to bytes
+FailureFits _ a from to bytes = Unit {0}
+
+ends_failed : (op : Op) (a : ArrayState) (from to lanes : ℕ) (bytes : List ℕ) → Ends op a (Failed from to lanes) bytes → FailureFits op a from to bytes
+ends_failed (Program at new) a from to lanes bytes ends = ends.1
+ends_failed Poll a from to lanes bytes ends = ends.1
+ends_failed (Read at len) a from to lanes bytes ends = tt
+ends_failed (EraseOpen b) a from to lanes bytes ends = tt
+ends_failed (Lock b) a from to lanes bytes ends = tt
+ends_failed (Unlock b) a from to lanes bytes ends = tt
+ends_failed (IsLocked b) a from to lanes bytes ends = tt
+ends_failed (Arm cut mask) a from to lanes bytes ends = tt
+ends_failed PowerOn a from to lanes bytes ends = tt
+
+locked_failed : (locked : Option ℕ) (op : Op) (a : ArrayState) (from to lanes : ℕ) (bytes : List ℕ) → EndsUnlocked locked op a (Failed from to lanes) bytes → FailureFits op a from to bytes
+locked_failed None op a from to lanes bytes ends = ends_failed op a from to lanes bytes ends
+locked_failed (Some b) op a from to lanes bytes ends = absurd (let no = ends.0 in cc)
+
+unrefused_failed : (needs_none : Bool) (e : Entry) (a : ArrayState) (from to lanes : ℕ) → e.reply ≡ Failed from to lanes → Unrefused needs_none e a → FailureFits e.op a from to e.bytes
+unrefused_failed true e a from to lanes same unrefused = absurd (let no = sym same ∙ unrefused.0 in cc)
+unrefused_failed false e a from to lanes same unrefused =
+    let P : Reply → Type 0 = λ r. AsksChips r e.op a e.bytes in
+    locked_failed (first_locked a e.op) e.op a from to lanes e.bytes (subst P same unrefused)
+
+pub admitted_failed : (a : ArrayState) (e : Entry) (from to lanes : ℕ) → Admits a e → e.reply ≡ Failed from to lanes → FailureFits e.op a from to e.bytes
+admitted_failed a e from to lanes admits same = elim (admitted a e admits) [
+  | inl refused ↦
+      let none : is_failure e.reply ≡ false = refusal_is (λ reply. is_failure reply ≡ false) a e.caller e.op (no_failures a.power) e.reply refused.0 in
+      absurd (let no : true ≡ false = sym (ap is_failure same) ∙ none in cc)
+  | inr free ↦ unrefused_failed (needs_no_chip e.op) e a from to lanes same free.1
 ]
 
 -- They reach over the block under erase, and the rest fits.

@@ -3,4 +3,6 @@ pub mod After
 pub mod Array
 pub mod Consts
 pub mod Fits
+pub mod Laws
+pub mod Legal
 pub mod Refusals

@@ -155,10 +155,8 @@ fn needs_locks(op: &Op) -> bool
     )
 }
 
-/// The first refusal of a call that the array and the call alone decide. In this order: the bytes or
-/// the block aren't there, too many bytes, a halt that is kept, nothing to poll or power is on, the
-/// block under erase is touched, another block is under erase, no locks are offered.
-pub fn refusal(array: &PlainArray, caller: u8, op: &Op) -> Option<Reply>
+// The first refusal of a call that holds.
+pub(crate) fn refusal(array: &PlainArray, caller: u8, op: &Op) -> Option<Reply>
     ensures { result ≡ refusal array.now caller op.now }
 {
     if is_outside(array, op) {

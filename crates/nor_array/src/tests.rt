@@ -1,0 +1,575 @@
+//! What an array admits and what it becomes: each refusal, each change and each choice, right and
+//! wrong by one.
+use crate::{
+    Consts, Entry, Halted, Op, PlainArray, Reply, admits, apply, bytes_of, make_bytes, plain,
+};
+use nor_cell::{NoMemory, Span};
+use nor_region::{Region, block_map};
+use std::alloc::Global;
+use std::process::Abort;
+use std::test::Fail;
+
+// Eight blocks of 1,024 bytes of 0xFF, all unlocked, with a weak device word in block 1.
+fn bank(alloc: Global, has_locks: bool, locked: bool) -> Result<PlainArray, Fail> {
+    let region = Region {
+        count: 8,
+        size: 1024,
+    };
+    let map = block_map(&[region], false, 8192)?;
+    let word = Span {
+        from: 0x404,
+        len: 2,
+    };
+    let weak = vec![in alloc; word]?;
+    let consts = Consts {
+        map,
+        has_locks,
+        locked,
+        weak,
+    };
+    Ok(plain(alloc, &[0xFF; 8192], consts)?)
+}
+
+fn program(alloc: Global, at: u32, new: &[u8]) -> Result<Op, NoMemory> {
+    let new = make_bytes(alloc, new)?;
+    Ok(Op::Program { at, new })
+}
+
+fn entry(alloc: Global, caller: u8, op: Op, reply: Reply, bytes: &[u8]) -> Result<Entry, NoMemory> {
+    let bytes = make_bytes(alloc, bytes)?;
+    Ok(Entry {
+        caller,
+        op,
+        reply,
+        bytes,
+    })
+}
+
+// The array admits the entry, and goes on as it says.
+fn goes_on(rt: &impl Abort, array: &mut PlainArray, entry: &Entry) {
+    assert!(rt; admits(array, entry));
+    apply(array, entry);
+}
+
+// The entry has no bytes.
+fn does(
+    rt: &impl Abort,
+    alloc: Global,
+    array: &mut PlainArray,
+    caller: u8,
+    op: Op,
+    reply: Reply,
+) -> Result<(), NoMemory> {
+    goes_on(rt, array, &entry(alloc, caller, op, reply, &[])?);
+    Ok(())
+}
+
+const OTHERS: [Reply; 22] = [
+    Reply::Done,
+    Reply::Opened,
+    Reply::Erased,
+    Reply::Bit(false),
+    Reply::Bit(true),
+    Reply::OutOfRange,
+    Reply::TooLong,
+    Reply::Busy { block: 1 },
+    Reply::Busy { block: 2 },
+    Reply::Occupied { block: 1 },
+    Reply::Occupied { block: 2 },
+    Reply::Locked { block: 0 },
+    Reply::Locked { block: 1 },
+    Reply::NoLocks,
+    Reply::Nothing,
+    Reply::NotYet,
+    Reply::Failed {
+        from: 0x404,
+        to: 0x406,
+        lanes: 1,
+    },
+    Reply::Halted(Halted::Off { after: 7 }),
+    Reply::Halted(Halted::Off { after: 8 }),
+    Reply::Halted(Halted::Stuck { lane: 0 }),
+    Reply::Halted(Halted::Stuck { lane: 1 }),
+    Reply::Halted(Halted::Off { after: 0 }),
+];
+
+// This reply is admitted with no bytes, and neither another one nor a byte with it.
+fn has_one_answer(
+    rt: &impl Abort,
+    alloc: Global,
+    array: &PlainArray,
+    caller: u8,
+    op: Op,
+    reply: Reply,
+) -> Result<(), NoMemory> {
+    let mut told = entry(alloc, caller, op, reply, &[])?;
+    assert!(rt; admits(array, &told), "{reply:?}");
+    for other in OTHERS {
+        told.reply = other;
+        assert!(rt;
+            other == reply || !admits(array, &told),
+            "{reply:?} and {other:?}"
+        );
+    }
+    told.reply = reply;
+    told.bytes = make_bytes(alloc, &[0])?;
+    assert!(rt; !admits(array, &told), "{reply:?} with a byte");
+    Ok(())
+}
+
+#[test]
+fn a_program_and_a_read(rt: HostRuntime) -> Result<(), Fail> {
+    let alloc = rt.alloc();
+    let region = Region {
+        count: 1,
+        size: 4096,
+    };
+    let consts = Consts {
+        map: block_map(&[region], false, 4096)?,
+        has_locks: false,
+        locked: false,
+        weak: Vec::new(alloc),
+    };
+    let mut array = plain(alloc, &[0xFF; 4096], consts)?;
+    does(
+        &rt,
+        alloc,
+        &mut array,
+        1,
+        program(alloc, 1, &[0xF0])?,
+        Reply::Done,
+    )?;
+    let read = Op::Read { at: 0, len: 4 };
+    let mut told = entry(alloc, 1, read, Reply::Done, &[0xFF, 0xF0, 0xFF, 0xFF])?;
+    assert!(rt; admits(&array, &told));
+    told.bytes = make_bytes(alloc, &[0xFF, 0xFF, 0xFF, 0xFF])?;
+    assert!(rt; !admits(&array, &told));
+    told.bytes = make_bytes(alloc, &[0xFF, 0xF0, 0xFF])?;
+    assert!(rt; !admits(&array, &told));
+    Ok(())
+}
+
+#[test]
+fn refusals_come_in_their_order(rt: HostRuntime) -> Result<(), Fail> {
+    let alloc = rt.alloc();
+    let mut array = bank(alloc, true, false)?;
+    does(
+        &rt,
+        alloc,
+        &mut array,
+        1,
+        Op::EraseOpen { block: 2 },
+        Reply::Opened,
+    )?;
+    // Each is the next one's reason too, or wrong by one byte, one block or one caller.
+    for (caller, at, len, reply) in [
+        (1, 8193, 0, Reply::OutOfRange),
+        (1, 0, 8193, Reply::OutOfRange),
+        (1, 0x800, 8192, Reply::OutOfRange),
+        (1, 0, 4097, Reply::TooLong),
+        (1, 0, 4096, Reply::Busy { block: 2 }),
+        (2, 0x7FF, 2, Reply::Busy { block: 2 }),
+        (2, 0xBFF, 1, Reply::Busy { block: 2 }),
+        (2, 0x800, 0, Reply::Done),
+        (1, 8192, 0, Reply::Done),
+    ] {
+        has_one_answer(&rt, alloc, &array, caller, Op::Read { at, len }, reply)?;
+    }
+    for (block, reply) in [
+        (8, Reply::OutOfRange),
+        (2, Reply::Busy { block: 2 }),
+        (7, Reply::Occupied { block: 2 }),
+    ] {
+        has_one_answer(&rt, alloc, &array, 3, Op::EraseOpen { block }, reply)?;
+    }
+    has_one_answer(&rt, alloc, &array, 2, Op::Poll, Reply::Nothing)?;
+    has_one_answer(&rt, alloc, &array, 0, Op::PowerOn, Reply::Nothing)?;
+    has_one_answer(
+        &rt,
+        alloc,
+        &array,
+        1,
+        Op::Lock { block: 2 },
+        Reply::Busy { block: 2 },
+    )?;
+    has_one_answer(
+        &rt,
+        alloc,
+        &array,
+        1,
+        Op::Unlock { block: 8 },
+        Reply::OutOfRange,
+    )?;
+    Ok(())
+}
+
+#[test]
+fn locks_are_offered_or_not(rt: HostRuntime) -> Result<(), Fail> {
+    let alloc = rt.alloc();
+    let mut array = bank(alloc, true, true)?;
+    let locked = Reply::Locked { block: 0 };
+    has_one_answer(
+        &rt,
+        alloc,
+        &array,
+        1,
+        program(alloc, 0x3FF, &[0, 0])?,
+        locked,
+    )?;
+    has_one_answer(
+        &rt,
+        alloc,
+        &array,
+        1,
+        Op::IsLocked { block: 1 },
+        Reply::Bit(true),
+    )?;
+    does(
+        &rt,
+        alloc,
+        &mut array,
+        1,
+        Op::Unlock { block: 0 },
+        Reply::Done,
+    )?;
+    let locked = Reply::Locked { block: 1 };
+    has_one_answer(
+        &rt,
+        alloc,
+        &array,
+        1,
+        program(alloc, 0x3FF, &[0, 0])?,
+        locked,
+    )?;
+    has_one_answer(
+        &rt,
+        alloc,
+        &array,
+        1,
+        program(alloc, 0x3FF, &[0])?,
+        Reply::Done,
+    )?;
+    has_one_answer(
+        &rt,
+        alloc,
+        &array,
+        1,
+        Op::EraseOpen { block: 0 },
+        Reply::Opened,
+    )?;
+    does(
+        &rt,
+        alloc,
+        &mut array,
+        1,
+        Op::Lock { block: 0 },
+        Reply::Done,
+    )?;
+    has_one_answer(
+        &rt,
+        alloc,
+        &array,
+        1,
+        Op::IsLocked { block: 0 },
+        Reply::Bit(true),
+    )?;
+    has_one_answer(&rt, alloc, &array, 1, Op::EraseOpen { block: 1 }, locked)?;
+    let none = bank(alloc, false, false)?;
+    has_one_answer(&rt, alloc, &none, 1, Op::Lock { block: 0 }, Reply::NoLocks)?;
+    has_one_answer(
+        &rt,
+        alloc,
+        &none,
+        1,
+        Op::IsLocked { block: 0 },
+        Reply::NoLocks,
+    )?;
+    Ok(())
+}
+
+// The byte at a place of the array.
+fn byte(array: &PlainArray, at: usize) -> Option<u8> {
+    bytes_of(array).get(at).copied()
+}
+
+#[test]
+fn a_read_beside_an_open_block_has_choices(rt: HostRuntime) -> Result<(), Fail> {
+    let alloc = rt.alloc();
+    let mut array = bank(alloc, true, false)?;
+    let mut told = entry(alloc, 2, Op::Read { at: 0x7FE, len: 2 }, Reply::NotYet, &[])?;
+    let stuck = Reply::Halted(Halted::Stuck { lane: 1 });
+    assert!(rt; !admits(&array, &told));
+    told.reply = stuck;
+    assert!(rt; !admits(&array, &told));
+    does(
+        &rt,
+        alloc,
+        &mut array,
+        1,
+        Op::EraseOpen { block: 2 },
+        Reply::Opened,
+    )?;
+    assert!(rt; !admits(&array, &told));
+    told.bytes = make_bytes(alloc, &[7; 1024])?;
+    assert!(rt; admits(&array, &told));
+    told.reply = Reply::Halted(Halted::Off { after: 0 });
+    assert!(rt; !admits(&array, &told));
+    told.bytes = make_bytes(alloc, &[])?;
+    told.reply = Reply::NotYet;
+    assert!(rt; admits(&array, &told));
+    told.bytes = make_bytes(alloc, &[0xFF, 0xFF])?;
+    assert!(rt; !admits(&array, &told));
+    told.reply = Reply::Done;
+    assert!(rt; admits(&array, &told));
+    Ok(())
+}
+
+#[test]
+fn an_erase_ends_with_ones(rt: HostRuntime) -> Result<(), Fail> {
+    let alloc = rt.alloc();
+    let mut array = bank(alloc, true, false)?;
+    does(
+        &rt,
+        alloc,
+        &mut array,
+        1,
+        program(alloc, 0x7FF, &[0, 0])?,
+        Reply::Done,
+    )?;
+    does(
+        &rt,
+        alloc,
+        &mut array,
+        1,
+        Op::EraseOpen { block: 2 },
+        Reply::Opened,
+    )?;
+    does(&rt, alloc, &mut array, 1, Op::Poll, Reply::NotYet)?;
+    let failed = Reply::Failed {
+        from: 0x800,
+        to: 0xC00,
+        lanes: 1,
+    };
+    let told = entry(alloc, 1, Op::Poll, failed, &[0; 1024])?;
+    assert!(rt; !admits(&array, &told));
+    does(&rt, alloc, &mut array, 1, Op::Poll, Reply::Erased)?;
+    for (at, left) in [(0x7FF, 0), (0x800, 0xFF), (0xBFF, 0xFF)] {
+        assert_eq!(rt; byte(&array, at), Some(left));
+    }
+    has_one_answer(&rt, alloc, &array, 1, Op::Poll, Reply::Nothing)?;
+    Ok(())
+}
+
+#[test]
+fn an_erase_over_a_weak_place_fails(rt: HostRuntime) -> Result<(), Fail> {
+    let alloc = rt.alloc();
+    let mut array = bank(alloc, true, false)?;
+    does(
+        &rt,
+        alloc,
+        &mut array,
+        1,
+        Op::EraseOpen { block: 1 },
+        Reply::Opened,
+    )?;
+    let mut told = entry(alloc, 1, Op::Poll, Reply::Erased, &[])?;
+    assert!(rt; !admits(&array, &told));
+    for (from, to, len, fits) in [
+        (0x400, 0x800, 1023, false),
+        (0x401, 0x800, 1024, false),
+        (0x400, 0x7FF, 1024, false),
+        (0x400, 0x800, 1024, true),
+    ] {
+        told.reply = Reply::Failed { from, to, lanes: 1 };
+        let left = vec![in alloc; 0xA5; len]?;
+        told.bytes = make_bytes(alloc, &left)?;
+        assert_eq!(rt; admits(&array, &told), fits);
+    }
+    goes_on(&rt, &mut array, &told);
+    for (at, left) in [(0x3FF, 0xFF), (0x400, 0xA5), (0x7FF, 0xA5), (0x800, 0xFF)] {
+        assert_eq!(rt; byte(&array, at), Some(left));
+    }
+    has_one_answer(&rt, alloc, &array, 1, Op::Poll, Reply::Nothing)?;
+    Ok(())
+}
+
+#[test]
+fn a_program_over_a_weak_place_fails_there(rt: HostRuntime) -> Result<(), Fail> {
+    let alloc = rt.alloc();
+    let mut array = bank(alloc, true, false)?;
+    // It would change only where a datum lacks a bit.
+    let spared = [0, 0xFF, 0xFF, 0];
+    has_one_answer(
+        &rt,
+        alloc,
+        &array,
+        1,
+        program(alloc, 0x403, &spared)?,
+        Reply::Done,
+    )?;
+    let op = program(alloc, 0x403, &[0, 0xFF, 0x0F, 0])?;
+    let mut told = entry(alloc, 1, op, Reply::Done, &[])?;
+    assert!(rt; !admits(&array, &told));
+    for (from, to, left, fits) in [
+        (0x403, 0x407, [0x00, 0xFF, 0x0F, 0x00].as_slice(), true),
+        (0x406, 0x407, &[0x00], false),
+        (0x403, 0x404, &[0x00], false),
+        (0x402, 0x405, &[0xFF, 0x00, 0xFF], false),
+        (0x404, 0x408, &[0xFF, 0x0F, 0x00, 0xFF], false),
+        (0x404, 0x406, &[0xFF], false),
+        (0x404, 0x406, &[0xFF, 0x8E], false),
+        (0x404, 0x404, &[], false),
+        (0x404, 0x406, &[0xFF, 0x8F], true),
+    ] {
+        told.reply = Reply::Failed { from, to, lanes: 1 };
+        told.bytes = make_bytes(alloc, left)?;
+        assert_eq!(rt; admits(&array, &told), fits, "{from} to {to}");
+    }
+    goes_on(&rt, &mut array, &told);
+    for (at, left) in [
+        (0x402, 0xFF),
+        (0x403, 0),
+        (0x404, 0xFF),
+        (0x405, 0x8F),
+        (0x406, 0xFF),
+    ] {
+        assert_eq!(rt; byte(&array, at), Some(left));
+    }
+    Ok(())
+}
+
+#[test]
+fn power_is_lost_in_a_program_beside_an_erase(rt: HostRuntime) -> Result<(), Fail> {
+    let alloc = rt.alloc();
+    let mut array = bank(alloc, true, false)?;
+    does(
+        &rt,
+        alloc,
+        &mut array,
+        2,
+        Op::Lock { block: 5 },
+        Reply::Done,
+    )?;
+    let by_a_caller = entry(alloc, 1, Op::Arm { after: 7, mask: 0 }, Reply::Done, &[])?;
+    assert!(rt; !admits(&array, &by_a_caller));
+    does(
+        &rt,
+        alloc,
+        &mut array,
+        0,
+        Op::Arm { after: 7, mask: 0 },
+        Reply::Done,
+    )?;
+    does(
+        &rt,
+        alloc,
+        &mut array,
+        1,
+        Op::EraseOpen { block: 2 },
+        Reply::Opened,
+    )?;
+    let off = Reply::Halted(Halted::Off { after: 7 });
+    let mut left = vec![in alloc; 0xA5; 1024]?;
+    let mut told = entry(alloc, 2, program(alloc, 0x7FE, &[0x0F, 0])?, off, &left)?;
+    assert!(rt; !admits(&array, &told));
+    for byte in [0x3F, 0x81] {
+        left.push(byte)?;
+    }
+    told.bytes = make_bytes(alloc, &left)?;
+    assert!(rt; admits(&array, &told));
+    told.reply = Reply::Halted(Halted::Off { after: 8 });
+    assert!(rt; !admits(&array, &told));
+    told.reply = off;
+    goes_on(&rt, &mut array, &told);
+    for (at, left) in [
+        (0x7FD, 0xFF),
+        (0x7FE, 0x3F),
+        (0x7FF, 0x81),
+        (0x800, 0xA5),
+        (0xBFF, 0xA5),
+        (0xC00, 0xFF),
+    ] {
+        assert_eq!(rt; byte(&array, at), Some(left));
+    }
+    // The halt is kept, with the number of the cut, until power is on again.
+    for op in [
+        Op::Poll,
+        Op::Arm { after: 0, mask: 0 },
+        Op::Read { at: 0, len: 0 },
+    ] {
+        let caller = if op == Op::Poll { 1 } else { 0 };
+        has_one_answer(&rt, alloc, &array, caller, op, off)?;
+    }
+    does(&rt, alloc, &mut array, 0, Op::PowerOn, Reply::Done)?;
+    has_one_answer(
+        &rt,
+        alloc,
+        &array,
+        1,
+        Op::IsLocked { block: 5 },
+        Reply::Bit(false),
+    )?;
+    has_one_answer(
+        &rt,
+        alloc,
+        &array,
+        1,
+        Op::EraseOpen { block: 3 },
+        Reply::Opened,
+    )?;
+    Ok(())
+}
+
+#[test]
+fn a_bit_above_the_old_one_is_never_left(rt: HostRuntime) -> Result<(), Fail> {
+    let alloc = rt.alloc();
+    let mut array = bank(alloc, true, false)?;
+    does(
+        &rt,
+        alloc,
+        &mut array,
+        1,
+        program(alloc, 0, &[0x7F])?,
+        Reply::Done,
+    )?;
+    let stuck = Reply::Halted(Halted::Stuck { lane: 3 });
+    let mut told = entry(alloc, 1, program(alloc, 0, &[0xF0])?, stuck, &[])?;
+    for (left, fits) in [
+        (0x7F, true),
+        (0x70, true),
+        (0xF0, false),
+        (0x60, false),
+        (0xFF, false),
+    ] {
+        told.bytes = make_bytes(alloc, &[left])?;
+        assert_eq!(rt; admits(&array, &told), fits, "{left}");
+    }
+    told.bytes = make_bytes(alloc, &[0x75])?;
+    goes_on(&rt, &mut array, &told);
+    assert_eq!(rt; byte(&array, 0), Some(0x75));
+    // Nothing leads back from a chip that is stuck.
+    has_one_answer(&rt, alloc, &array, 0, Op::PowerOn, stuck)?;
+    Ok(())
+}
+
+#[test]
+fn a_locked_block_keeps_its_bytes_in_a_halt(rt: HostRuntime) -> Result<(), Fail> {
+    let alloc = rt.alloc();
+    let mut array = bank(alloc, true, false)?;
+    does(
+        &rt,
+        alloc,
+        &mut array,
+        1,
+        Op::Lock { block: 0 },
+        Reply::Done,
+    )?;
+    let stuck = Reply::Halted(Halted::Stuck { lane: 0 });
+    let mut told = entry(alloc, 1, program(alloc, 0, &[0])?, stuck, &[0x7F])?;
+    assert!(rt; !admits(&array, &told));
+    told.bytes = make_bytes(alloc, &[0xFF])?;
+    assert!(rt; admits(&array, &told));
+    let copy = told.clone()?;
+    assert!(rt; copy == told);
+    Ok(())
+}
