@@ -21,7 +21,7 @@ use Rattle.nor_io.specs.Files.{FileMap, Rose, Appends}
 use Rattle.norbank.specs.Answering.{IsWithin, CanAnswer, IsDone}
 use Rattle.norbank.specs.Endings.{Ending, ends, refused_ending, unfound_ending, range_ending, show_ending, task_ending, chips_of_file, IsBankEnding, IsFileEnding, IsNamedEnding}
 use Rattle.norbank.specs.Open.{IsAccepted, PrintsImage, ShowsImage}
-use Rattle.norbank.specs.Says.{Taken, Says, EndsIn, Lacks, IsFound, IsToldEnding, TaskEnds}
+use Rattle.norbank.specs.Says.{Taken, Says, SaysOrLacks, EndsIn, Lacks, BankSays, FileSays, IsFound, IsToldEnding, TaskEnds}
 use Rattle.norbank.specs.Text.{hex_line, out_of_range, too_large, no_memory, absent, read_fault}
 use Rattle.norbank.specs.declared.words.Task.{Task}
 use Rattle.norbank.specs.declared.words.Task.TheVariants.{Read, Show}
@@ -40,7 +40,27 @@ accepted_in found g chips difference error is first wrong same none =
 pub accepted_of : (width : ℕ) (chips : List ChipState) (found : Found) → IsFoundOn width chips found → refusal width chips ≡ None
 accepted_of width chips found is =
     accepted_in (found_geometry width chips) found.geometry chips (first_difference found.geometry chips) (first_error (table_read found.geometry chips 0))
-    is.wiring refl refl is.same is.stands.checks
+    is.wiring refl refl is.same is.says.stands.checks
+
+-- what ends so, or for want of memory
+pub bank_says : (task : Task) (width : ℕ) (device : Device) (chips : List ChipState) (e : Ending) (taken : Taken) (status : ℕ) → IsBankEnding task width device chips e
+    → SaysOrLacks e taken status → BankSays task width device chips taken status
+bank_says task width device chips e taken status is (inl says) = inl (record { ending = e; is = is; says = says })
+bank_says task width device chips e taken status is (inr lacks) = inr lacks
+
+-- a task on the file that was found under the name
+named_ends : (task : Task) (told : Option FileMap) (name file : List ℕ) (f g : ℕ) (taken : Taken) (status : ℕ) → IsFound told name (Some file) → length file ≤ 2 ^ 30
+    → EndsIn (IsFileEnding task file) taken status → TaskEnds task told name f g taken status
+named_ends task told name file f g taken status is small so = inl (record {
+  ending = so.ending;
+  is = record { found = Some file; is_found = is; is = inr (small, so.is) };
+  says = so.says;
+})
+
+pub named_is : (task : Task) (told : Option FileMap) (name file : List ℕ) (f g : ℕ) (taken : Taken) (status : ℕ) → IsFound told name (Some file) → length file ≤ 2 ^ 30
+    → FileSays task file taken status → TaskEnds task told name f g taken status
+named_is task told name file f g taken status is small (inl so) = named_ends task told name file f g taken status is small so
+named_is task told name file f g taken status is small (inr lacks) = inr (inr lacks)
 
 -- ---- the status of each ending
 
@@ -76,6 +96,12 @@ range_text device chips at len within =
 pub range_past : (device : Device) (chips : List ChipState) (at len : ℕ) → bank_size chips < at + len → range_ending device chips at len ≡ ends 10 out_of_range
 range_past device chips at len past =
     ap (λ (b : Bool). if b then ends 10 out_of_range else ends 0 (hex_line (bank_bytes device chips at len))) (lt_true (bank_size chips) (at + len) past)
+
+pub range_same : (device : Device) (new old : List ChipState) (at len : ℕ) → bank_size new ≡ bank_size old → bank_bytes device new at len ≡ bank_bytes device old at len
+    → range_ending device new at len ≡ range_ending device old at len
+range_same device new old at len size bytes =
+    ap (λ (n : ℕ). if nat_lt n (at + len) then ends 10 out_of_range else ends 0 (hex_line (bank_bytes device new at len))) size
+    ∙ ap (λ (l : List ℕ). if nat_lt (bank_size old) (at + len) then ends 10 out_of_range else ends 0 (hex_line l)) bytes
 
 -- what is done on a bank that was found
 task_code : (task : Task) (width : ℕ) (device : Device) (chips : List ChipState) (found : Found)
@@ -135,6 +161,12 @@ named_code task told None name e is ending =
     let low = other e (ends 8 (absent name)) ending (record { done = λ x. omega arith; fault = λ x. omega arith }) in
     (low.fault, λ x. absurd (low.done x))
 named_code task told (Some file) name e is ending = sized_code task told file name e is ending
+
+-- the same of another task and name, which are these
+pub task_as : (task other_task : Task) (told : Option FileMap) (name other_name : List ℕ) (f g : ℕ) (taken : Taken) (status : ℕ) → task ≡ other_task → name ≡ other_name
+    → TaskEnds task told name f g taken status → TaskEnds other_task told other_name f g taken status
+task_as task other_task told name other_name f g taken status same same_name so =
+    subst (λ (n : List ℕ). TaskEnds other_task told n f g taken status) same_name (subst (λ (t : Task). TaskEnds t told name f g taken status) same so)
 
 -- ---- status 0
 

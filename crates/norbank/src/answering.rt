@@ -32,11 +32,7 @@ fn found_on<W: BusWord, B: Bus<W>>(bus: &mut B) -> Result<Found, ProbeError>
     ensures bytes { SameBytes (B.state bus.old) (B.state bus.new) }
     ensures units { units_of (B.state bus.new) ≡ units_of (B.state bus.old) }
 {
-    match probe::<W, B>(bus) {
-        Ok(found) => Ok(found),
-        Err(ProbeError::Off) => unreachable!(),
-        Err(error) => Err(error),
-    }
+    probe::<W, B>(bus)
 }
 
 // How many bytes the bank has.
