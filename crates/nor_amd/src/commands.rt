@@ -1,7 +1,7 @@
 //! The command language: what a write does when no job runs.
-ghost use Rattle.std.specs.Prelude.{◌≡◌, ◌<◌, ◌==◌, ◌%◌, if◌then◌else◌};
-ghost use Rattle.nor_cell.specs.Amd.{aborted, begin_program, begin_erase, array_steps, query_steps, mode_steps, abort_steps, fault_steps};
-ghost use Rattle.nor_cell.specs.Chip.{Array, Rest, U2, Idle, NoFault, BufferConfirm, units, block_of, BufferData};
+ghost use Rattle.std.specs.Prelude.{◌≡◌, ◌<◌, ◌%◌};
+ghost use Rattle.nor_cell.specs.Amd.{aborted, begin_program, begin_erase, array_steps, query_steps, abort_steps, fault_steps};
+ghost use Rattle.nor_cell.specs.Chip.{Array, Rest, U2, Idle, NoFault, BufferConfirm, units, block_of};
 ghost use Rattle.nor_cell.specs.Machine.{load_of};
 
 use crate::addresses::{first_address, is_first_unlock, is_second_unlock, query_address};

@@ -1,5 +1,5 @@
 //! The mode that shows the locks of the blocks and sets them.
-ghost use Rattle.std.specs.Prelude.{◌≡◌, ◌<◌, ◌==◌, if◌then◌else◌};
+ghost use Rattle.std.specs.Prelude.{◌≡◌, ◌<◌};
 ghost use Rattle.nor_cell.specs.Chip.{units};
 ghost use Rattle.nor_cell.specs.Amd.{locks_steps};
 

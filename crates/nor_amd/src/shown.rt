@@ -1,8 +1,8 @@
 //! What a read shows.
 ghost use Rattle.std.specs.Prelude.{◌≡◌, ◌<◌, ◌+◌, ◌-◌, ◌^◌, length, slice_index, nat_lt};
-ghost use Rattle.nor_cell.specs.Amd.{working, array_at, mode_at, fault_at, shown};
+ghost use Rattle.nor_cell.specs.Amd.{array_at, mode_at, fault_at, shown};
 ghost use Rattle.nor_cell.specs.Bits.{unit_len};
-ghost use Rattle.nor_cell.specs.Chip.{Part, NoFault, units, runs};
+ghost use Rattle.nor_cell.specs.Chip.{units};
 ghost use Rattle.nor_cell.specs.Intel.{bit_if};
 
 use crate::toggles::in_held;

@@ -1,6 +1,6 @@
 //! The toggle bits: which of them a read flips.
 ghost use Rattle.std.specs.Prelude.{◌≡◌, ◌<◌};
-ghost use Rattle.nor_cell.specs.Amd.{shows_held, toggles_6, toggles_2, toggled};
+ghost use Rattle.nor_cell.specs.Amd.{toggles_6, toggles_2, toggled};
 ghost use Rattle.nor_cell.specs.Chip.{units, place};
 ghost use Rattle.nor_cell.specs.Intel.{in_held};
 
