@@ -1,11 +1,10 @@
 -- A bank that answers to a wiring, and what is then read of it.
-use Rattle.std.proofs.Common.{◌≡◌, ◌<◌, ◌≤◌, ◌+◌, ◌∙◌, ℕ, List, map, Bool, true, Option, Some, None, OnSome, refl, sym, ap, subst, arith}
+use Rattle.std.proofs.Common.{◌≡◌, ◌<◌, ◌≤◌, ◌+◌, ◌∙◌, ℕ, List, map, true, Option, Some, None, OnSome, sym, ap, subst, arith}
 use Rattle.std.specs.List.{find, range_with_len}
 use Rattle.std.specs.Option.{option_and_then, option_or, option_map, is_some}
-use Rattle.nor_cell.specs.Chip.{ChipState}
 use Rattle.nor_cell.specs.Resting.{IsResting}
 use Rattle.nor_cell.specs.declared.geometry.Geometry.{Geometry}
-use Rattle.nor_bus.specs.Bus.{BusState, lane, lanes_of}
+use Rattle.nor_bus.specs.Bus.{BusState, lane}
 use Rattle.nor_bus.specs.Cycles.{KeepsLanes}
 use Rattle.nor_bus.specs.Driven.{Lost, EachLane, AllLanes}
 use Rattle.nor_bus.proofs.Driving.{went_then, lost_then}

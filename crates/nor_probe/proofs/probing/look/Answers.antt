@@ -1,4 +1,4 @@
-use Rattle.std.proofs.Common.{◌≡◌, ◌≢◌, ◌∙◌, sym, ap, subst, arith, ℕ, List, Result, IfOk, IfErr}
+use Rattle.std.proofs.Common.{◌≡◌, ◌∙◌, sym, ap, subst, arith, ℕ, List, Result, IfOk}
 use Rattle.std.specs.Result.{result_err}
 use Rattle.nor_bus.specs.Driven.{Lost}
 use Rattle.nor_probe.specs.Tables.{table_read}
