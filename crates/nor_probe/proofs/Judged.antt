@@ -12,7 +12,6 @@ use Rattle.nor_probe.specs.Asking.{Resets, Rests}
 use Rattle.nor_probe.specs.Counted.{Counted}
 use Rattle.nor_probe.specs.Probed.{refusal, refusal_in, IsCommonTable, IsFoundBy, IsFoundOn}
 use Rattle.nor_probe.specs.Tables.{table_read, first_difference}
-use Rattle.nor_probe.specs.declared.error.ProbeError.{ProbeError}
 use Rattle.nor_probe.specs.declared.error.ProbeError.TheVariants.{Query}
 use Rattle.nor_probe.specs.declared.probing.Found.{Found}
 use Rattle.nor_probe.proofs.Shown.{rests_reset}

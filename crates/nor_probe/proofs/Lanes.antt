@@ -75,9 +75,9 @@ nothing_said f (s ∷ chips) p none = nothing_then s.part.device (f s) (side_by_
 pub nothing_in_lane : (d : ℕ) (word : List ℕ) (c : ℕ) → ((p : ℕ) → slice_index word p ≡ 0) → lane_of d word c ≡ 0
 nothing_in_lane d word c none = by_width (d == 1)
   where
-  by_width : (one : Bool) → (if one then slice_index word c else slice_index word (2 * c) + 256 * slice_index word (2 * c + 1)) ≡ 0
-  by_width true = none c
-  by_width false = let low = none (2 * c) in let high = none (2 * c + 1) in omega (arith, low, high)
+    by_width : (one : Bool) → (if one then slice_index word c else slice_index word (2 * c) + 256 * slice_index word (2 * c + 1)) ≡ 0
+    by_width true = none c
+    by_width false = let low = none (2 * c) in let high = none (2 * c + 1) in omega (arith, low, high)
 
 -- The second byte is the high one of a sixteen bit chip, which says a byte.
 pub second_byte : (f : ChipState → ℕ) (chips : List ChipState) → (chip_at chips 0).part.device ≡ X16 → 0 < length chips → f (chip_at chips 0) < 256
@@ -111,9 +111,9 @@ each_reads d (suc n) v word is c below =
     let parts = both (lanes_read d n word v) (lane_of d word n == v) is in
     this_or_earlier (lane_of d word c) (lane_of d word n) parts.1 (ap (λ (k : ℕ). lane_of d word k)) (cases_eq c n) (λ less. each_reads d n v word parts.0 c (omega arith))
   where
-  this_or_earlier : (x y : ℕ) → (y == v) ≡ true → (c ≡ n → x ≡ y) → (c ≡ n) ⊎ (c ≢ n) → (c ≢ n → x ≡ v) → x ≡ v
-  this_or_earlier x y here same (inl is) earlier = same is ∙ equal y v here
-  this_or_earlier x y here same (inr less) earlier = earlier less
+    this_or_earlier : (x y : ℕ) → (y == v) ≡ true → (c ≡ n → x ≡ y) → (c ≡ n) ⊎ (c ≢ n) → (c ≢ n → x ≡ v) → x ≡ v
+    this_or_earlier x y here same (inl is) earlier = same is ∙ equal y v here
+    this_or_earlier x y here same (inr less) earlier = earlier less
 
 not_true : (b : Bool) → (b ≡ true → ⊥) → b ≡ false
 not_true true never = absurd (never refl)

@@ -1,11 +1,10 @@
 -- A bank that answers to a wiring, and what is then read of it.
-use Rattle.std.proofs.Common.{◌≡◌, ◌<◌, ◌≤◌, ◌+◌, ◌∙◌, ℕ, List, map, Bool, true, Option, Some, None, OnSome, IfSome, refl, sym, ap, subst, arith}
+use Rattle.std.proofs.Common.{◌≡◌, ◌<◌, ◌≤◌, ◌+◌, ◌∙◌, ℕ, List, map, true, Option, Some, None, OnSome, sym, ap, subst, arith}
 use Rattle.std.specs.List.{find, range_with_len}
 use Rattle.std.specs.Option.{option_and_then, option_or, option_map, is_some}
-use Rattle.nor_cell.specs.Chip.{ChipState}
 use Rattle.nor_cell.specs.Resting.{IsResting}
 use Rattle.nor_cell.specs.declared.geometry.Geometry.{Geometry}
-use Rattle.nor_bus.specs.Bus.{BusState, lane, lanes_of}
+use Rattle.nor_bus.specs.Bus.{BusState, lane}
 use Rattle.nor_bus.specs.Cycles.{KeepsLanes}
 use Rattle.nor_bus.specs.Driven.{Lost, EachLane, AllLanes}
 use Rattle.nor_bus.proofs.Driving.{went_then, lost_then}
@@ -38,12 +37,9 @@ counted_lost m n q a b c fits first lost = let few = first.few in lost_then firs
 
 -- ---- a wiring that was found
 
-pub on_some : {X : Type 0} (o : Option X) (x : X) (P : Type 0) → o ≡ Some x → OnSome o P → P
+on_some : {X : Type 0} (o : Option X) (x : X) (P : Type 0) → o ≡ Some x → OnSome o P → P
 on_some None x P is fact = absurd cc
 on_some (Some y) x P is fact = fact
-
-pub if_some : {X : Type 0} (o : Option X) (x : X) (P : X → Type 0) → o ≡ Some x → IfSome o P → P x
-if_some o x P is fact = subst (λ p. IfSome p P) is fact
 
 -- The chips were asked, and answer to a wiring.
 pub record Answers (width : ℕ) (g : Geometry) (old now : BusState) : Type 0 where
@@ -51,12 +47,20 @@ pub record Answers (width : ℕ) (g : Geometry) (old now : BusState) : Type 0 wh
   pub asks : EachLane Asks old now
   pub wiring : AllLanes IsResting old → found_geometry width old.lanes ≡ Some g
 
-pub all_show : (width : ℕ) (g : Geometry) (old now : BusState) → Answers width g old now → AllLanes IsResting old → AllLanes ShowsQuery now
+pub answers_of : (width : ℕ) (g : Geometry) (old now : BusState) (found : Option Geometry) → Counted 21 old now → OnSome found (EachLane Asks old now)
+    → (AllLanes IsResting old → found ≡ found_geometry width old.lanes) → found ≡ Some g → Answers width g old now
+answers_of width g old now found counted asked is some = record {
+  counted = counted;
+  asks = on_some found g (EachLane Asks old now) some asked;
+  wiring = λ rests. sym (is rests) ∙ some;
+}
+
+all_show : (width : ℕ) (g : Geometry) (old now : BusState) → Answers width g old now → AllLanes IsResting old → AllLanes ShowsQuery now
 all_show width g old now answers rests = λ c below.
     let there = subst (λ (n : ℕ). c < n) answers.counted.went.kept.count below in
     asked_shows (lane old c) (lane now c) (answers.asks c there) (rests c there)
 
-pub qry_shown : (width : ℕ) (g : Geometry) (old now : BusState) → Answers width g old now → AllLanes IsResting old → shows_qry g now.lanes ≡ true
+qry_shown : (width : ℕ) (g : Geometry) (old now : BusState) → Answers width g old now → AllLanes IsResting old → shows_qry g now.lanes ≡ true
 qry_shown width g old now answers rests =
     shows_kept g old now answers.counted.went.kept ∙ found_passes (λ (x : Geometry). shows_qry x old.lanes) (candidates_of width) g (answers.wiring rests)
 

@@ -1,20 +1,17 @@
 -- What is found on a well wired bus is its own.
-use Rattle.std.proofs.Common.{◌≡◌, ◌≢◌, ◌<◌, ◌≤◌, ◌+◌, ◌-◌, ◌%◌, ◌==◌, ◌⊎◌, inl, inr, not, ◌∙◌, ◌++◌, ℕ, List, length, slice_index, replicate, drop, Bool, true, false, Option, Some, None, IsTrue, Result, Ok, Err, IsOk, refl, sym, ap, subst, arith}
+use Rattle.std.proofs.Common.{◌≡◌, ◌≢◌, ◌<◌, ◌≤◌, ◌+◌, ◌-◌, ◌%◌, ◌==◌, ◌⊎◌, inl, inr, not, ◌∙◌, ℕ, List, length, slice_index, replicate, drop, Bool, true, false, Option, Some, None, refl, sym, ap, subst, arith}
 use Rattle.std.specs.List.{find, range_with_len}
 use Rattle.std.specs.Option.{option_and_then, option_or, option_map, is_some}
-use Rattle.std.specs.Result.{result_err}
 use Rattle.std.proofs.Math.Nat.{mod-eq_of_lt}
 use Rattle.std.proofs.lemmas.Bool.{cases_lt}
 use Rattle.std.proofs.lemmas.List.{get_or_append_left, get_or-append_right, get_or-replicate, get_or-drop, length-replicate, length-append, length-drop, ext_get_or}
 use Rattle.std.proofs.lemmas.List.FromFn.{fill_by_all}
 use Rattle.nor_cell.specs.Bits.{unit_len}
-use Rattle.nor_cell.specs.Chip.{ChipState, Part}
+use Rattle.nor_cell.specs.Chip.{ChipState}
 use Rattle.nor_cell.specs.Intel.{query_at}
-use Rattle.nor_cell.specs.Wiring.{is_wiring}
-use Rattle.nor_cell.specs.declared.device.Device.{Device}
 use Rattle.nor_cell.specs.declared.geometry.Geometry.{Geometry}
 use Rattle.nor_word.specs.Word.{lane_of}
-use Rattle.nor_bus.specs.Bus.{BusState, lane, lanes_of, chip_at}
+use Rattle.nor_bus.specs.Bus.{BusState, lane, lanes_of}
 use Rattle.nor_bus.proofs.Driving.{some_lane}
 use Rattle.nor_lane.specs.Candidates.{wiring}
 use Rattle.nor_query.specs.Checks.{first_error}
@@ -70,17 +67,17 @@ own_byte : (width : ℕ) (g : Geometry) (bus : BusState) (c n : ℕ) → IsWellW
     → low_byte g (table_word g bus.lanes n) c ≡ slice_index (shown_table (lane bus c)) n
 own_byte width g bus c n well below inside = first_or_later (cases_lt n 16)
   where
-  says : lane_of (unit_len g.device) (table_word g bus.lanes n) c ≡ query_at (lane bus c).part (query_address g.device n)
-  says = lane_says g.device bus.lanes (query_address g.device n) c (chips_show width g bus well) below
+    says : lane_of (unit_len g.device) (table_word g bus.lanes n) c ≡ query_at (lane bus c).part (query_address g.device n)
+    says = lane_says g.device bus.lanes (query_address g.device n) c (chips_show width g bus well) below
 
-  first_or_later : (n < 16) ⊎ (16 ≤ n) → low_byte g (table_word g bus.lanes n) c ≡ slice_index (shown_table (lane bus c)) n
-  first_or_later (inl first) =
-      low_of (lane_of (unit_len g.device) (table_word g bus.lanes n) c) 0 (says ∙ nothing_at g.device (lane bus c).part n (well.own.bank.devices c below) first) (omega arith)
-      ∙ sym (shown_first (lane bus c) n first)
-  first_or_later (inr later) =
-      low_of (lane_of (unit_len g.device) (table_word g bus.lanes n) c) (slice_index (lane bus c).part.table n)
-      (says ∙ table_at g.device (lane bus c).part n (well.own.bank.devices c below) later inside) ((well.chips c below).chip.table_bytes n)
-      ∙ sym (shown_later (lane bus c) n later)
+    first_or_later : (n < 16) ⊎ (16 ≤ n) → low_byte g (table_word g bus.lanes n) c ≡ slice_index (shown_table (lane bus c)) n
+    first_or_later (inl first) =
+        low_of (lane_of (unit_len g.device) (table_word g bus.lanes n) c) 0 (says ∙ nothing_at g.device (lane bus c).part n (well.own.bank.devices c below) first) (omega arith)
+        ∙ sym (shown_first (lane bus c) n first)
+    first_or_later (inr later) =
+        low_of (lane_of (unit_len g.device) (table_word g bus.lanes n) c) (slice_index (lane bus c).part.table n)
+        (says ∙ table_at g.device (lane bus c).part n (well.own.bank.devices c below) later inside) ((well.chips c below).chip.table_bytes n)
+        ∙ sym (shown_later (lane bus c) n later)
 
 own_table : (width : ℕ) (g : Geometry) (bus : BusState) (c : ℕ) → IsWellWired width g bus → c < lanes_of bus → table_read g bus.lanes c ≡ shown_table (lane bus c)
 unfolding table_read
@@ -119,16 +116,16 @@ accepts width g bus table well all passes =
 never_none : (g : Geometry) (n : ℕ) (word : List ℕ) → is_some (odd_lane g word) ≡ true → difference_in g n word ≢ None
 never_none g n word odd = by_lane (λ c. LaneDiffers c n (low_byte g word 0) (low_byte g word c)) (odd_lane g word) odd
   where
-  by_lane : (f : ℕ → ProbeError) (o : Option ℕ) → is_some o ≡ true → option_map f o ≢ None
-  by_lane f None odd = λ is. cc
-  by_lane f (Some c) odd = λ is. cc
+    by_lane : (f : ℕ → ProbeError) (o : Option ℕ) → is_some o ≡ true → option_map f o ≢ None
+    by_lane f None odd = λ is. cc
+    by_lane f (Some c) odd = λ is. cc
 
 no_first : (p : ℕ → Bool) (f : ℕ → Option ProbeError) (xs : List ℕ) → ((n : ℕ) → p n ≡ true → f n ≢ None) → option_and_then f (find p xs) ≡ None → find p xs ≡ None
 no_first p f xs never is = by_found (find p xs) refl is
   where
-  by_found : (o : Option ℕ) → find p xs ≡ o → option_and_then f o ≡ None → o ≡ None
-  by_found None found none = refl
-  by_found (Some n) found none = absurd (never n (found_passes p xs n found) none)
+    by_found : (o : Option ℕ) → find p xs ≡ o → option_and_then f o ≡ None → o ≡ None
+    by_found None found none = refl
+    by_found (Some n) found none = absurd (never n (found_passes p xs n found) none)
 
 not_some : (o : Option ℕ) → is_some o ≡ false → o ≡ None
 not_some None is = refl

@@ -1,10 +1,6 @@
 -- Chips that are what their tables say answer to their own wiring first, and show their tables in it.
-use Rattle.std.proofs.Common.{◌≡◌, ◌≢◌, ◌<◌, ◌≤◌, ◌+◌, ◌-◌, ◌*◌, ◌/◌, ◌%◌, ◌==◌, ◌&&◌, ◌||◌, ◌⊎◌, inl, inr, not, ◌∙◌, ◌++◌, ◌∷◌, [], ℕ, zero, suc, List, length, slice_index, replicate, drop, map, Bool, true, false, cond, nat_le, nat_lt, if◌then◌else◌, Option, Some, None, IsTrue, refl, sym, ap, subst, arith}
-use Rattle.std.specs.List.{find, range_with_len}
-use Rattle.std.specs.Option.{option_and_then, option_or, option_map, is_some}
-use Rattle.std.proofs.Math.Nat.{mod-eq_of_lt}
-use Rattle.std.proofs.lemmas.List.{get_or_append_left, get_or-append_right, get_or-replicate, get_or-drop, length-replicate, length-append, length-drop, ext_get_or}
-use Rattle.std.proofs.lemmas.List.FromFn.{fill_by_all}
+use Rattle.std.proofs.Common.{◌≡◌, ◌≢◌, ◌<◌, ◌≤◌, ◌*◌, ◌/◌, ◌==◌, ◌&&◌, ◌||◌, ◌⊎◌, inl, inr, ◌∙◌, ◌∷◌, [], ℕ, List, length, slice_index, Bool, true, false, cond, nat_le, nat_lt, if◌then◌else◌, Some, None, IsTrue, refl, sym, ap, subst, arith}
+use Rattle.std.specs.List.{find}
 use Rattle.nor_cell.specs.Bits.{unit_len, AreBytes}
 use Rattle.nor_cell.specs.Chip.{ChipState, Part}
 use Rattle.nor_cell.specs.Intel.{query_at, register}
@@ -13,10 +9,10 @@ use Rattle.nor_cell.specs.declared.device.Device.{Device}
 use Rattle.nor_cell.specs.declared.device.Device.TheVariants.{X8, X16, X16Byte}
 use Rattle.nor_cell.specs.declared.geometry.Geometry.{Geometry}
 use Rattle.nor_word.specs.Word.{lane_of}
-use Rattle.nor_bus.specs.Bus.{BusState, lane, lanes_of, chip_at}
+use Rattle.nor_bus.specs.Bus.{chip_at}
 use Rattle.nor_bus.specs.Words.{query_word}
 use Rattle.nor_lane.specs.Candidates.{wiring, candidates_of}
-use Rattle.nor_probe.specs.Found.{query_address, lanes_read, shows_at, shows_qry, found_geometry}
+use Rattle.nor_probe.specs.Found.{query_address, shows_at, shows_qry, found_geometry}
 use Rattle.nor_probe.specs.WellWired.{HasQry}
 use Rattle.nor_probe.proofs.Lanes.{said, second_byte, all_read, one_hides}
 
@@ -45,9 +41,9 @@ pub record ShowQry (device : Device) (chips : List ChipState) : Type 0 where
 query_small : (part : Part) (u : ℕ) → AreBytes part.table → query_at part u < 256
 query_small part u bytes = by_range (nat_le 0x10 (register part.device u) && nat_lt (register part.device u) 0x200)
   where
-  by_range : (there : Bool) → (if there then slice_index part.table (register part.device u) else 0) < 256
-  by_range true = bytes (register part.device u)
-  by_range false = omega arith
+    by_range : (there : Bool) → (if there then slice_index part.table (register part.device u) else 0) < 256
+    by_range true = bytes (register part.device u)
+    by_range false = omega arith
 
 -- lane c reads what chip c says, at any address
 pub lane_says : (device : Device) (chips : List ChipState) (u c : ℕ) → ShowQry device chips → c < length chips
@@ -95,7 +91,7 @@ half_hides : (device : Device) (lanes : ℕ) (chips : List ChipState) → unit_l
 half_hides device lanes chips one show some several =
     let u = query_address device 0x10 in
     let high : slice_index (query_word chips u) 1 ≡ 0 =
-        second_byte (λ s. query_at s.part u) chips (show.devices 0 some) some (query_small (chip_at chips 0).part u (show.bytes 0 some)) in
+    second_byte (λ s. query_at s.part u) chips (show.devices 0 some) some (query_small (chip_at chips 0).part u (show.bytes 0 some)) in
     let reads : lane_of (unit_len device) (query_word chips u) 1 ≡ 0 = ap (λ (d : ℕ). lane_of d (query_word chips u) 1) one ∙ high in
     no_q (wiring lanes device) chips (one_hides (unit_len device) lanes 0x51 (query_word chips u) 1 several (not_q (lane_of (unit_len device) (query_word chips u) 1) reads))
 

@@ -1,6 +1,5 @@
 -- Reading the tables of all lanes, byte by byte.
-use Rattle.std.proofs.Common.{◌≡◌, ◌≢◌, ◌<◌, ◌≤◌, ◌+◌, ◌-◌, ◌*◌, ◌%◌, ◌⊎◌, inl, inr, ◌==◌, ◌&&◌, ◌||◌, not, ◌∙◌, ℕ, zero, suc, List, length, slice_index, slice_set, map, Bool, true, false, Option, Some, None, if◌then◌else◌, refl, sym, ap, subst, arith}
-use Rattle.std.specs.List.{find, range_with_len}
+use Rattle.std.proofs.Common.{◌≡◌, ◌≢◌, ◌<◌, ◌≤◌, ◌+◌, ◌-◌, ◌*◌, ◌%◌, ◌⊎◌, inl, inr, ◌==◌, ◌&&◌, ◌||◌, not, ◌∙◌, ℕ, zero, suc, List, length, slice_index, slice_set, Bool, true, false, Option, Some, None, if◌then◌else◌, refl, sym, ap, subst, arith}
 use Rattle.std.specs.Option.{option_map, option_and_then, is_some}
 use Rattle.std.proofs.lemmas.Bool.{cases_eq}
 use Rattle.std.proofs.lemmas.Grind.{get_or-set_at}
@@ -8,19 +7,17 @@ use Rattle.std.proofs.lemmas.List.{get_or-set_other, length-set}
 use Rattle.std.proofs.lemmas.List.FromFn.{fill_by_all}
 use Rattle.nor_cell.specs.Bits.{unit_len}
 use Rattle.nor_cell.specs.Chip.{ChipState, Part}
-use Rattle.nor_cell.specs.Intel.{query_at, register}
+use Rattle.nor_cell.specs.Intel.{query_at}
 use Rattle.nor_cell.specs.declared.device.Device.{Device}
 use Rattle.nor_cell.specs.declared.device.Device.TheVariants.{X8, X16, X16Byte}
 use Rattle.nor_cell.specs.declared.geometry.Geometry.{Geometry}
 use Rattle.nor_word.specs.Word.{lane_of}
-use Rattle.nor_bus.specs.Bus.{BusState, lane, lanes_of}
-use Rattle.nor_bus.specs.Cycles.{KeepsLanes}
+use Rattle.nor_bus.specs.Bus.{BusState, lane}
 use Rattle.nor_bus.specs.Driven.{Went, Lost, EachLane, AllLanes}
-use Rattle.nor_bus.specs.Words.{query_word}
 use Rattle.nor_bus.proofs.Driving.{went_none, went_then, lost_then}
 use Rattle.nor_probe.specs.Asking.{ShowsQuery, Stays}
 use Rattle.nor_probe.specs.Counted.{Counted}
-use Rattle.nor_probe.specs.Found.{query_address, lanes_read, shows_at, shows_qry}
+use Rattle.nor_probe.specs.Found.{query_address, shows_at, shows_qry}
 use Rattle.nor_probe.specs.Tables.{table_word, low_byte, odd_lane, difference_in, table_read, first_difference, known_byte, reads_at, reads_before}
 use Rattle.nor_probe.specs.declared.error.ProbeError.{ProbeError}
 use Rattle.nor_probe.specs.declared.error.ProbeError.TheVariants.{LaneDiffers}
@@ -39,8 +36,8 @@ nothing_below part X16Byte u is below = grind (arith, is, below)
 nothing_low : (g : Geometry) (chips : List ChipState) (n c : ℕ) → query_address g.device n < 0x10 → low_byte g (table_word g chips n) c ≡ 0
 nothing_low g chips n c below =
     let none : lane_of (unit_len g.device) (table_word g chips n) c ≡ 0 =
-        nothing_in_lane (unit_len g.device) (table_word g chips n) c
-        (λ p. nothing_said (λ s. query_at s.part (query_address g.device n)) chips p (λ s. nothing_below s.part s.part.device (query_address g.device n) refl below)) in
+    nothing_in_lane (unit_len g.device) (table_word g chips n) c
+    (λ p. nothing_said (λ s. query_at s.part (query_address g.device n)) chips p (λ s. nothing_below s.part s.part.device (query_address g.device n) refl below)) in
     ap (λ (v : ℕ). v % 256) none
 
 letters : (q r y : Bool) → (q && r && y) ≡ true → (q ≡ true) × (r ≡ true) × (y ≡ true)
@@ -66,13 +63,13 @@ known_low g chips n v c known shows below =
     let all = letters (shows_at g chips 0x10 0x51) (shows_at g chips 0x11 0x52) (shows_at g chips 0x12 0x59) shows in
     by_case all.0 all.1 all.2 (which_known g.device n v known)
   where
-  by_case : shows_at g chips 0x10 0x51 ≡ true → shows_at g chips 0x11 0x52 ≡ true → shows_at g chips 0x12 0x59 ≡ true
-      → ((n ≡ 0x10) × (v ≡ 0x51)) ⊎ (((n ≡ 0x11) × (v ≡ 0x52)) ⊎ (((n ≡ 0x12) × (v ≡ 0x59)) ⊎ ((query_address g.device n < 0x10) × (v ≡ 0))))
-      → low_byte g (table_word g chips n) c ≡ v
-  by_case q r y (inl e) = ap (λ (m : ℕ). low_byte g (table_word g chips m) c) e.0 ∙ (letter_low g chips 0x10 0x51 c (omega arith) q below ∙ sym e.1)
-  by_case q r y (inr (inl e)) = ap (λ (m : ℕ). low_byte g (table_word g chips m) c) e.0 ∙ (letter_low g chips 0x11 0x52 c (omega arith) r below ∙ sym e.1)
-  by_case q r y (inr (inr (inl e))) = ap (λ (m : ℕ). low_byte g (table_word g chips m) c) e.0 ∙ (letter_low g chips 0x12 0x59 c (omega arith) y below ∙ sym e.1)
-  by_case q r y (inr (inr (inr e))) = nothing_low g chips n c e.0 ∙ sym e.1
+    by_case : shows_at g chips 0x10 0x51 ≡ true → shows_at g chips 0x11 0x52 ≡ true → shows_at g chips 0x12 0x59 ≡ true
+        → ((n ≡ 0x10) × (v ≡ 0x51)) ⊎ (((n ≡ 0x11) × (v ≡ 0x52)) ⊎ (((n ≡ 0x12) × (v ≡ 0x59)) ⊎ ((query_address g.device n < 0x10) × (v ≡ 0))))
+        → low_byte g (table_word g chips n) c ≡ v
+    by_case q r y (inl e) = ap (λ (m : ℕ). low_byte g (table_word g chips m) c) e.0 ∙ (letter_low g chips 0x10 0x51 c (omega arith) q below ∙ sym e.1)
+    by_case q r y (inr (inl e)) = ap (λ (m : ℕ). low_byte g (table_word g chips m) c) e.0 ∙ (letter_low g chips 0x11 0x52 c (omega arith) r below ∙ sym e.1)
+    by_case q r y (inr (inr (inl e))) = ap (λ (m : ℕ). low_byte g (table_word g chips m) c) e.0 ∙ (letter_low g chips 0x12 0x59 c (omega arith) y below ∙ sym e.1)
+    by_case q r y (inr (inr (inr e))) = nothing_low g chips n c e.0 ∙ sym e.1
 
 same_fails : (a b : ℕ) → a ≡ b → not (a == b) ≡ false
 same_fails a b is = grind (arith, is)
@@ -132,9 +129,9 @@ few_before device n below =
 reads_one : (device : Device) (n : ℕ) → reads_at device n ≤ 1
 reads_one device n = one_at_most (is_some (known_byte device n))
   where
-  one_at_most : (known : Bool) → (if known then 0 else 1) ≤ 1
-  one_at_most true = omega arith
-  one_at_most false = omega arith
+    one_at_most : (known : Bool) → (if known then 0 else 1) ≤ 1
+    one_at_most true = omega arith
+    one_at_most false = omega arith
 
 pub few_reads : (device : Device) (n : ℕ) → n ≤ 512 → reads_before device n ≤ 501
 few_reads device zero most = let least = more_later device 0 0 in let first = few_before device 0 (omega arith) in omega (arith, first)
@@ -218,7 +215,7 @@ read_more g n old now new table byte so inside went stays differs is = record {
   same = λ all shows k below.
       let next = reads_next g n old now table so all shows in
       let none : odd_lane g (table_word g now.lanes n) ≡ None =
-          no_lane (λ c. LaneDiffers c n (low_byte g (table_word g now.lanes n) 0) (low_byte g (table_word g now.lanes n) c)) (odd_lane g (table_word g now.lanes n)) (differs next.all next.shows) in
+      no_lane (λ c. LaneDiffers c n (low_byte g (table_word g now.lanes n) 0) (low_byte g (table_word g now.lanes n) c)) (odd_lane g (table_word g now.lanes n)) (differs next.all next.shows) in
       up_to n k (λ j. odd_lane g (table_word g old.lanes j)) (so.same all shows) (ap (λ (ls : List ChipState). odd_lane g (table_word g ls n)) (sym next.lanes) ∙ none) below (cases_eq k n);
   bytes = λ all shows k below.
       let next = reads_next g n old now table so all shows in

@@ -1,5 +1,5 @@
 -- The query tables of a bank's lanes, as a wiring reads them.
-use Rattle.std.specs.Prelude.{◌==◌, ◌%◌, ◌+◌, not, nat_lt, ℕ, zero, suc, Bool, List, Option, Some, None, map, is_some, if◌then◌else◌}
+use Rattle.std.specs.Prelude.{◌==◌, ◌%◌, ◌+◌, not, nat_lt, ℕ, zero, suc, List, Option, Some, None, map, is_some, if◌then◌else◌}
 use Rattle.std.specs.List.{find, range_with_len}
 use Rattle.std.specs.Option.{option_map, option_and_then}
 use Rattle.nor_cell.specs.Bits.{unit_len}

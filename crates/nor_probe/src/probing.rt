@@ -23,27 +23,31 @@ use nor_query::{Query, decode};
 use nor_region::BlockMap;
 use nor_word::BusWord;
 
-/// What a bank is.
+/// What a bank is, as its chips say.
 #[derive(Clone, Debug, PartialEq, Eq, Drop)]
 pub struct Found {
-    /// How its chips lie on the bus word.
+    /// How the chips lie on the bus word.
     pub geometry: Geometry,
     /// What every chip's query table says.
     pub query: Query,
-    /// The blocks of the bank: each is the same block of every chip, side by side.
+    /// The blocks of the bank, in bytes of the bank: each is the same block of every chip.
     pub map: BlockMap,
 }
 
-/// The wiring that the chips answer to, and the table that all lanes show. At most 522 cycles.
+/// The wiring that the chips answer to, and the table that all lanes show; the inner error says that
+/// there is none. At most 522 cycles.
 fn look<W: BusWord, B: Bus<W>>(
     bus: &mut B,
 ) -> Result<Result<(Geometry, [u8; 512]), ProbeError>, Off>
     ensures counted { OnOk result (Counted 522 (B.state bus.old) (B.state bus.new)) }
     ensures lanes { OnOk result (EachLane Rests (B.state bus.old) (B.state bus.new)) }
-    ensures refused { IfOk result (λ seen. AllLanes IsResting (B.state bus.old) → IfErr seen (λ e. refusal W.WIDTH (B.state bus.old).lanes ≡ Some e)) }
-    ensures table { IfOk result (λ seen. AllLanes IsResting (B.state bus.old) → IfOk seen (λ s. IsCommonTable W.WIDTH (B.state bus.old).lanes s.0 s.1)) }
+    ensures refused { IfOk result (λ seen. AllLanes IsResting (B.state bus.old)
+        → IfErr seen (λ e. refusal W.WIDTH (B.state bus.old).lanes ≡ Some e)) }
+    ensures table { IfOk result (λ seen. AllLanes IsResting (B.state bus.old)
+        → IfOk seen (λ s. IsCommonTable W.WIDTH (B.state bus.old).lanes s.0 s.1)) }
     ensures power { IfOk result (λ seen. IfErr seen (λ e. e ≢ LostPower)) }
-    ensures wiring { IfOk result (λ seen. IfOk seen (λ s. IsTrue (is_wiring W.WIDTH s.0.lanes s.0.device))) }
+    ensures wiring { IfOk result (λ seen.
+        IfOk seen (λ s. IsTrue (is_wiring W.WIDTH s.0.lanes s.0.device))) }
     ensures lost { OnErr result (Lost 522 (B.state bus.old) (B.state bus.new)) }
     ensures units { units_of (B.state bus.new) ≡ units_of (B.state bus.old) }
 {
@@ -56,7 +60,7 @@ fn look<W: BusWord, B: Bus<W>>(
     }
 }
 
-/// What a table says of a bank of such chips.
+/// What the chips' table says of a bank of this wiring.
 fn found_of(geometry: Geometry, table: &[u8; 512]) -> Result<Found, ProbeError>
     requires some { 0 < geometry.lanes }
     requires few { geometry.lanes ≤ 4 }

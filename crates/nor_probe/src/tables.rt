@@ -28,8 +28,8 @@ fn low_byte<W: BusWord>(word: W, g: Geometry, lane: u8) -> u8
     (lane_get(word, lane, lane_bytes(g.device)) % 256) as u8
 }
 
-/// The low byte that all lanes of a word have. Where they differ, the error names the lowest lane
-/// that hasn't lane 0's.
+/// The low byte that all lanes of a word have, where the word has the byte of each table at this
+/// offset. The error names the lowest lane that hasn't lane 0's.
 fn common_byte<W: BusWord>(word: W, g: Geometry, offset: u16) -> Result<u8, ProbeError>
     requires { IsTrue (is_wiring W.WIDTH g.lanes g.device) }
     ensures differs { result_err result ≡ difference_in g offset (W.bytes word) }
@@ -51,7 +51,8 @@ fn common_byte<W: BusWord>(word: W, g: Geometry, offset: u16) -> Result<u8, Prob
     Ok(left)
 }
 
-/// The byte of every lane's table that is known without a cycle, where the lanes show `QRY`.
+/// The byte that every lane's table has at an offset, where that needs no cycle: the lanes show
+/// `QRY`, and nothing below [`FIRST_SHOWN`].
 fn known_byte(device: Device, offset: u16) -> Option<u8>
     requires { offset < 512 }
     ensures { result ≡ known_byte_lem device offset }
@@ -65,7 +66,8 @@ fn known_byte(device: Device, offset: u16) -> Option<u8>
     }
 }
 
-/// A byte that every lane's table has. At most one cycle, and none for what is known.
+/// The byte that every lane's table has at an offset, of lanes that show `QRY`. The inner error says
+/// how they differ there. One cycle, or none where the byte is known.
 fn byte_at<W: BusWord, B: Bus<W>>(
     bus: &mut B,
     g: Geometry,
@@ -73,12 +75,15 @@ fn byte_at<W: BusWord, B: Bus<W>>(
 ) -> Result<Result<u8, ProbeError>, Off>
     requires wiring { IsTrue (is_wiring W.WIDTH g.lanes g.device) }
     requires low { offset < 512 }
-    ensures went { OnOk result (Went (reads_at g.device offset) (reads_at g.device offset) (B.state bus.old) (B.state bus.new)) }
+    ensures went { let cycles = reads_at g.device offset in
+        OnOk result (Went cycles cycles (B.state bus.old) (B.state bus.new)) }
     ensures lanes { OnOk result (EachLane Stays (B.state bus.old) (B.state bus.new)) }
-    ensures differs { IfOk result (λ read. AllLanes ShowsQuery (B.state bus.old) → shows_qry g (B.state bus.old).lanes ≡ true
-        → result_err read ≡ difference_in g offset (table_word g (B.state bus.old).lanes offset)) }
-    ensures byte { IfOk result (λ read. AllLanes ShowsQuery (B.state bus.old) → shows_qry g (B.state bus.old).lanes ≡ true
-        → IfOk read (λ byte. byte ≡ low_byte_lem g (table_word g (B.state bus.old).lanes offset) 0)) }
+    ensures differs { let chips = (B.state bus.old).lanes in
+        IfOk result (λ read. AllLanes ShowsQuery (B.state bus.old) → shows_qry g chips ≡ true
+        → result_err read ≡ difference_in g offset (table_word g chips offset)) }
+    ensures byte { let chips = (B.state bus.old).lanes in
+        IfOk result (λ read. AllLanes ShowsQuery (B.state bus.old) → shows_qry g chips ≡ true
+        → IfOk read (λ byte. byte ≡ low_byte_lem g (table_word g chips offset) 0)) }
     ensures power { IfOk result (λ read. IfErr read (λ e. e ≢ LostPower)) }
     ensures lost { OnErr result (Lost 1 (B.state bus.old) (B.state bus.new)) }
     ensures units { units_of (B.state bus.new) ≡ units_of (B.state bus.old) }
@@ -90,8 +95,8 @@ fn byte_at<W: BusWord, B: Bus<W>>(
     Ok(common_byte(word, g, offset))
 }
 
-/// The table that every lane of a wiring shows, or the first place at which two lanes differ. The
-/// lanes show `QRY`. At most 501 cycles, one for each byte that isn't known.
+/// The table that all lanes show, of lanes that show `QRY`. The inner error says where they differ
+/// first. At most 501 cycles, one for each byte that isn't known, and none behind a difference.
 pub fn read_table<W: BusWord, B: Bus<W>>(
     bus: &mut B,
     g: Geometry,
@@ -99,10 +104,12 @@ pub fn read_table<W: BusWord, B: Bus<W>>(
     requires { IsTrue (is_wiring W.WIDTH g.lanes g.device) }
     ensures counted { OnOk result (Counted 501 (B.state bus.old) (B.state bus.new)) }
     ensures lanes { OnOk result (EachLane Stays (B.state bus.old) (B.state bus.new)) }
-    ensures differs { IfOk result (λ read. AllLanes ShowsQuery (B.state bus.old) → shows_qry g (B.state bus.old).lanes ≡ true
-        → result_err read ≡ first_difference g (B.state bus.old).lanes) }
-    ensures table { IfOk result (λ read. AllLanes ShowsQuery (B.state bus.old) → shows_qry g (B.state bus.old).lanes ≡ true
-        → IfOk read (λ table. table ≡ table_read g (B.state bus.old).lanes 0)) }
+    ensures differs { let chips = (B.state bus.old).lanes in
+        IfOk result (λ read. AllLanes ShowsQuery (B.state bus.old) → shows_qry g chips ≡ true
+        → result_err read ≡ first_difference g chips) }
+    ensures table { let chips = (B.state bus.old).lanes in
+        IfOk result (λ read. AllLanes ShowsQuery (B.state bus.old) → shows_qry g chips ≡ true
+        → IfOk read (λ table. table ≡ table_read g chips 0)) }
     ensures power { IfOk result (λ read. IfErr read (λ e. e ≢ LostPower)) }
     ensures lost { OnErr result (Lost 501 (B.state bus.old) (B.state bus.new)) }
     ensures units { units_of (B.state bus.new) ≡ units_of (B.state bus.old) }

@@ -1,6 +1,6 @@
 //! Power goes where it was told to, comes back, and no cell has changed.
 
-use crate::banks::{QRY, Wiring, first_bytes, load};
+use crate::banks::{Wiring, first_bytes, load};
 use nor_bank::read_range;
 use nor_bus::{Bus, Off, SimBank, read_word, write_code, write_word};
 use nor_cell::Device::X8;
@@ -22,7 +22,7 @@ const TWO_BYTE_WIDE: Wiring = Wiring {
 };
 
 fn two_byte_bank(rt: &impl Abort, alloc: Global) -> Result<Bank, Fail> {
-    match load(rt, alloc, TWO_BYTE_WIDE, QRY)? {
+    match load(rt, alloc, TWO_BYTE_WIDE)? {
         Loaded::Intel16(bank) => Ok(bank),
         _ => Err("no bank of two-byte words")?,
     }
@@ -70,7 +70,7 @@ fn has_first_chip(rt: &impl Abort, bank: &Bank, units: u32) {
 #[test]
 fn a_bank_just_loaded_has_power_and_its_chips(rt: HostRuntime) -> Result<(), Fail> {
     let bank = two_byte_bank(&rt, rt.alloc())?;
-    has_first_chip(&rt, &bank, 4096);
+    has_first_chip(&rt, &bank, 8192);
     assert!(rt; bank.is_on());
     assert_eq!(rt; bank.cycles(), 0);
     assert_eq!(rt; bank.failed(), 0);

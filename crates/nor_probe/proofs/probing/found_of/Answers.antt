@@ -1,7 +1,6 @@
-use Rattle.std.proofs.Common.{◌≡◌, ◌≤◌, ◌^◌, ◌∙◌, refl, ap, arith, map}
+use Rattle.std.proofs.Common.{◌≤◌, ◌^◌, ◌∙◌, refl, ap, arith, map}
 use Rattle.std.proofs.Math.Pow.{pow_mono}
 use Rattle.nor_region.specs.Map.{scaled_region, scaled_span}
-use Rattle.nor_probe.proofs.OwnTables.{own_found}
 use Rattle.nor_probe.proofs.probing.found_of.Goals as goal
 
 pub scaled-map-requires-clause-chip : goal.scaled-map-requires-clause-chip

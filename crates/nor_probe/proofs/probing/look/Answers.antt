@@ -1,11 +1,10 @@
-use Rattle.std.proofs.Common.{◌≡◌, ◌≢◌, ◌∙◌, sym, ap, subst, arith, ℕ, List, Result, IfOk, IfErr}
+use Rattle.std.proofs.Common.{◌≡◌, ◌∙◌, sym, ap, subst, arith, ℕ, List, Result, IfOk}
 use Rattle.std.specs.Result.{result_err}
-use Rattle.nor_bus.specs.Driven.{Lost, EachLane}
-use Rattle.nor_probe.specs.Asking.{Asks}
+use Rattle.nor_bus.specs.Driven.{Lost}
 use Rattle.nor_probe.specs.Tables.{table_read}
 use Rattle.nor_probe.specs.declared.error.ProbeError.{ProbeError}
 use Rattle.nor_probe.proofs.Asked.{on_err}
-use Rattle.nor_probe.proofs.Looking.{Answers, counted_then, counted_lost, on_some, if_some, read_rests, common_table, lanes_refused}
+use Rattle.nor_probe.proofs.Looking.{answers_of, counted_then, counted_lost, read_rests, common_table, lanes_refused}
 use Rattle.nor_probe.proofs.probing.look.Goals as goal
 
 pub returns-in_err-table-clause-lost : goal.returns-in_err-table-clause-lost
@@ -27,33 +26,24 @@ pub returns-in-Ok-clause-lanes : goal.returns-in-Ok-clause-lanes
 returns-in-Ok-clause-lanes g c =
     let old = g.B.Bus.state c.args.bus.now in
     let now = g.B.Bus.state c.answering.new.bus in
-    let answers : Answers g.W.BusWord.WIDTH c.in-Some.geometry old now = record {
-      counted = c.in_ok-geometry.ensures.counted;
-      asks = on_some c.in_ok-geometry.field-0 c.in-Some.geometry (EachLane Asks old now) c.in-Some.is c.in_ok-geometry.ensures.asked;
-      wiring = λ rests. sym (c.in_ok-geometry.ensures.found rests) ∙ c.in-Some.is;
-    } in
+    let first = c.in_ok-geometry.ensures in
+    let answers = answers_of g.W.BusWord.WIDTH c.in-Some.geometry old now c.in_ok-geometry.field-0 first.counted first.asked first.found c.in-Some.is in
     read_rests g.W.BusWord.WIDTH c.in-Some.geometry old now (g.B.Bus.state c.read_table.new.bus) answers c.in_ok-table.ensures.lanes
 
 pub returns-in-Err-clause-lanes : goal.returns-in-Err-clause-lanes
 returns-in-Err-clause-lanes g c =
     let old = g.B.Bus.state c.args.bus.now in
     let now = g.B.Bus.state c.answering.new.bus in
-    let answers : Answers g.W.BusWord.WIDTH c.in-Some.geometry old now = record {
-      counted = c.in_ok-geometry.ensures.counted;
-      asks = on_some c.in_ok-geometry.field-0 c.in-Some.geometry (EachLane Asks old now) c.in-Some.is c.in_ok-geometry.ensures.asked;
-      wiring = λ rests. sym (c.in_ok-geometry.ensures.found rests) ∙ c.in-Some.is;
-    } in
+    let first = c.in_ok-geometry.ensures in
+    let answers = answers_of g.W.BusWord.WIDTH c.in-Some.geometry old now c.in_ok-geometry.field-0 first.counted first.asked first.found c.in-Some.is in
     read_rests g.W.BusWord.WIDTH c.in-Some.geometry old now (g.B.Bus.state c.read_table.new.bus) answers c.in_ok-table.ensures.lanes
 
 pub returns-in-Ok-clause-table : goal.returns-in-Ok-clause-table
 returns-in-Ok-clause-table g c =
     let old = g.B.Bus.state c.args.bus.now in
     let now = g.B.Bus.state c.answering.new.bus in
-    let answers : Answers g.W.BusWord.WIDTH c.in-Some.geometry old now = record {
-      counted = c.in_ok-geometry.ensures.counted;
-      asks = on_some c.in_ok-geometry.field-0 c.in-Some.geometry (EachLane Asks old now) c.in-Some.is c.in_ok-geometry.ensures.asked;
-      wiring = λ rests. sym (c.in_ok-geometry.ensures.found rests) ∙ c.in-Some.is;
-    } in
+    let first = c.in_ok-geometry.ensures in
+    let answers = answers_of g.W.BusWord.WIDTH c.in-Some.geometry old now c.in_ok-geometry.field-0 first.counted first.asked first.found c.in-Some.is in
     common_table g.W.BusWord.WIDTH c.in-Some.geometry old now c.in-Ok.table answers
     (λ all shows. sym (ap result_err c.in-Ok.is) ∙ c.in_ok-table.ensures.differs all shows)
     (λ all shows. subst (λ (r : Result (List ℕ) ProbeError). IfOk r (λ table. table ≡ table_read c.in-Some.geometry now.lanes 0)) c.in-Ok.is (c.in_ok-table.ensures.table all shows))
@@ -62,10 +52,7 @@ pub returns-in-Err-clause-refused : goal.returns-in-Err-clause-refused
 returns-in-Err-clause-refused g c =
     let old = g.B.Bus.state c.args.bus.now in
     let now = g.B.Bus.state c.answering.new.bus in
-    let answers : Answers g.W.BusWord.WIDTH c.in-Some.geometry old now = record {
-      counted = c.in_ok-geometry.ensures.counted;
-      asks = on_some c.in_ok-geometry.field-0 c.in-Some.geometry (EachLane Asks old now) c.in-Some.is c.in_ok-geometry.ensures.asked;
-      wiring = λ rests. sym (c.in_ok-geometry.ensures.found rests) ∙ c.in-Some.is;
-    } in
+    let first = c.in_ok-geometry.ensures in
+    let answers = answers_of g.W.BusWord.WIDTH c.in-Some.geometry old now c.in_ok-geometry.field-0 first.counted first.asked first.found c.in-Some.is in
     lanes_refused g.W.BusWord.WIDTH c.in-Some.geometry old now c.in-Err.differs answers
     (λ all shows. sym (ap result_err c.in-Err.is) ∙ c.in_ok-table.ensures.differs all shows)

@@ -1,5 +1,5 @@
 use Rattle.std.proofs.Common.{◌≡◌, ◌∙◌, sym, arith, Some}
-use Rattle.nor_probe.specs.Probed.{refusal, IsCommonTable, IsFoundBy, IsFoundOn}
+use Rattle.nor_probe.specs.Probed.{refusal, IsCommonTable, IsFoundBy}
 use Rattle.nor_probe.proofs.Looking.{counted_lost}
 use Rattle.nor_probe.proofs.OwnTables.{shows_itself, own_found, accepts}
 use Rattle.nor_probe.proofs.Judged.{if_ok, if_err, then_ok, ok_of, clash, counted_more, reset_last, refusal_common, found_on}

@@ -2,7 +2,6 @@ use Rattle.std.proofs.Common.{◌≡◌, ◌∙◌, sym, ap, subst, arith, ℕ, 
 use Rattle.nor_cell.specs.Bits.{unit_len}
 use Rattle.nor_bus.specs.Words.{query_word}
 use Rattle.nor_bus.proofs.Sizes.{bus_units}
-use Rattle.nor_probe.specs.Found.{query_address}
 use Rattle.nor_probe.specs.Tables.{table_word, low_byte, difference_in}
 use Rattle.nor_probe.proofs.TablesRead.{known_low, none_odd, none_differs, first_lane}
 use Rattle.nor_probe.proofs.tables.byte_at.Goals as goal
