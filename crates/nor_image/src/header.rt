@@ -1,4 +1,4 @@
-ghost use Rattle.std.specs.Prelude.{◌≡◌, ◌≤◌, ◌^◌, length, slice_index, nat_le};
+ghost use Rattle.std.specs.Prelude.{◌≡◌, slice_index, nat_le};
 ghost use Rattle.nor_cell.specs.Wiring.{is_wiring};
 ghost use Rattle.nor_image.specs.Image.{magic_field, tested_field, refusal_of, first_refusal, header_fields, is_width, width_of, device_of, device_of_code, lanes_of_file};
 ghost use Rattle.nor_image.specs.Reading.{Reads, IsHeader};

@@ -1,4 +1,4 @@
-ghost use Rattle.std.specs.Prelude.{◌≡◌, ◌<◌, ◌≤◌, ◌^◌, ℕ, length, IfOk, IfErr, None};
+ghost use Rattle.std.specs.Prelude.{◌≡◌, ◌<◌, ◌≤◌, ℕ, IfOk, IfErr, None};
 ghost use Rattle.nor_cell.specs.Bits.{AreBytes};
 ghost use Rattle.nor_bus.specs.Bus.{IsBank, lane as lane_of_bus, lanes_of};
 ghost use Rattle.nor_image.specs.Image.{header_fields, first_refusal, image_refusal, device_of, lanes_of_file, IsImageOf, IsCause};
