@@ -1,5 +1,6 @@
 -- From the chips of all records to the bank of a file.
-use Rattle.std.proofs.Common.{◌≡◌, ◌<◌, ℕ, zero, suc, List, length, IsTrue, sym, ap, subst, ◌∙◌, arith, get_or, Some, None}
+use Rattle.std.proofs.Common.{◌≡◌, ◌<◌, ◌≤◌, ℕ, zero, suc, List, length, IsTrue, sym, ap, subst, ◌∙◌, arith, get_or, Some, None}
+use Rattle.std.proofs.lemmas.Bool.Decides.{nat_tests}
 use Rattle.std.proofs.lemmas.List.{length-map}
 use Rattle.nor_cell.specs.Cells.{chip_of}
 use Rattle.nor_cell.specs.Chip.{ChipState}
@@ -8,6 +9,7 @@ use Rattle.nor_cell.specs.Table.{set_of}
 use Rattle.nor_cell.specs.Wiring.{is_wiring}
 use Rattle.nor_cell.specs.declared.cells.Cells.{Cells}
 use Rattle.nor_cell.specs.declared.device.Device.{Device}
+use Rattle.nor_cell.specs.declared.device.Device.TheVariants.{X8, X16, X16Byte}
 use Rattle.nor_cell.specs.declared.device.Set.{Set}
 use Rattle.nor_cell.specs.declared.device.Set.TheVariants.{Intel}
 use Rattle.nor_bus.specs.Bus.{IsBank}
@@ -23,6 +25,12 @@ use Rattle.nor_image.specs.declared.error.ImageError.TheVariants.{BadMagic, BadH
 pub some_lanes : (width n : ℕ) (device : Device) → IsTrue (is_wiring width n device) → 0 < n
 some_lanes width zero device h = absurd (cc)
 some_lanes width (suc n) device h = omega arith
+
+-- and at most four
+pub few_lanes : (width n : ℕ) (device : Device) → IsTrue (is_wiring width n device) → n ≤ 4
+few_lanes width n X8 h = grind (arith, nat_tests)
+few_lanes width n X16 h = grind (arith, nat_tests)
+few_lanes width n X16Byte h = grind (arith, nat_tests)
 
 -- as many chips as cells
 as_many : (lanes : List Cells) → length (chips_of Intel lanes) ≡ length lanes

@@ -11,6 +11,7 @@ use Rattle.nor_cell.specs.Power.{powered}
 use Rattle.nor_cell.specs.declared.cells.Cells.{Cells}
 use Rattle.nor_cell.specs.declared.device.Set.{Set}
 use Rattle.nor_bus.specs.Bus.{chip_at, no_chip}
+use Rattle.nor_bus.proofs.Sizes.{chip_size}
 use Rattle.nor_image.specs.Image.{first_refusal, record_fields, fields_before, header_fields, record_place, record_end, lanes_of_file, device_of, size_in, chip_in, trailing, image_refusal, is_size_by}
 use Rattle.nor_image.specs.Reading.{AreStored, AreChips, chips_of}
 use Rattle.nor_image.specs.declared.error.ImageError.{ImageError}
@@ -44,7 +45,8 @@ chips_pushed file set n xs x so is size bytes fits = record {
 pub record LanesSoFar (file : List ℕ) (n at : ℕ) (lanes : List Cells) : Type 0 where
   pub at_is : at ≡ record_place file n
   pub behind : 12 ≤ at
-  pub within : at ≤ length file
+  -- no record has more than 256 weak places and 2 ^ 27 cells
+  pub near : at ≤ 12 + 134219288 * n
   pub none : first_refusal file (fields_before file n) ≡ None
   pub chips : (set : Set) → AreChips file set n (chips_of set lanes)
 
@@ -55,8 +57,10 @@ pub lanes_more : (file : List ℕ) (n at next : ℕ) (lanes more : List Cells) (
 lanes_more file n at next lanes more cells so right stored further pushed =
     let f : Set → Cells → ChipState = λ set c. powered (chip_of set c) in
     let end : next ≡ record_end file at = (let a = stored.weak in let b = stored.size in omega arith) in
-    let whole = stored.whole in
     let behind = so.behind in
+    let near = so.near in
+    let few = cells.few_weak in
+    let small = (chip_size (length cells.bytes.items) cells.sized).1 in
     let chip : (set : Set) → powered (chip_of set cells) ≡ chip_in file set (device_of file) (record_place file n) =
     λ set. stored.chip set ∙ ap (chip_in file set (device_of file)) so.at_is in
     let chips : (set : Set) → AreChips file set (n + 1) (chips_of set more) = λ set.
@@ -66,7 +70,7 @@ lanes_more file n at next lanes more cells so right stored further pushed =
     record {
       at_is = end ∙ (ap (record_end file) so.at_is ∙ ap (record_place file) (sym (add-one n)));
       behind = omega arith;
-      within = omega arith;
+      near = omega arith;
       none = ap (λ (k : ℕ). first_refusal file (fields_before file k)) (add-one n)
           ∙ (goes_on file (fields_before file n) (record_fields file n (record_place file n)) so.none ∙ right');
       chips = chips;
@@ -107,23 +111,3 @@ nothing_stops file n at lanes so all whole =
     let last : at ≡ record_place file (lanes_of_file file) = so.at_is ∙ ap (record_place file) all in
     or_none _ _ (subst (λ (k : ℕ). first_refusal file (fields_before file k) ≡ None) all so.none)
     ∙ subst (λ (p : ℕ). trailing file p ≡ None) last (ends file at whole)
-
--- the chips of no record
-no_chips : (file : List ℕ) (set : Set) → AreChips file set 0 []
-no_chips file set = record {
-  count = refl;
-  each = λ c below. absurd (omega arith);
-  sizes = λ c below. absurd (omega arith);
-  bytes = λ c below. absurd (omega arith);
-  fits = λ c below. absurd (omega arith);
-}
-
--- before the first record
-pub no_lanes : (file : List ℕ) (lanes : List Cells) → first_refusal file (header_fields file) ≡ None → 12 ≤ length file → lanes ≡ [] → LanesSoFar file 0 12 lanes
-no_lanes file lanes header long none = record {
-  at_is = refl;
-  behind = omega arith;
-  within = long;
-  none = header;
-  chips = λ set. subst (λ (xs : List Cells). AreChips file set 0 (chips_of set xs)) (sym none) (no_chips file set);
-}

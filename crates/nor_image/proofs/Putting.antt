@@ -1,5 +1,6 @@
 -- What is written, one piece behind the other.
 use Rattle.std.proofs.Common.{◌≡◌, ◌<◌, ◌≤◌, ℕ, ◌+◌, ◌*◌, List, ◌++◌, [], ◌∷◌, length, take, get_or, refl, sym, ap, subst, ◌∙◌, arith, append_assoc, append-nil}
+use borrow.Author.Count.{below_more}
 use Rattle.std.proofs.lemmas.Grind.{flat_map-append}
 use Rattle.std.proofs.lemmas.List.Folds.{length-flat_map-take}
 use Rattle.std.proofs.lemmas.List.{length-append, length-take-le, take_more, take_all}
@@ -46,15 +47,6 @@ records-take_more chips c below =
     ∙ (flat_map-append record_bytes (take c chips) (chip_at chips c ∷ [])
     ∙ ap (λ last. records_bytes (take c chips) ++ last) (append-nil (record_bytes (chip_at chips c))))
 
--- one more chip behind what was written
-pub chips_more : {old mid new : List ℕ} {at next end : ℕ} (head : List ℕ) (chips : List ChipState) (c : ℕ) → c < length chips
-    → Puts (head ++ records_bytes (take c chips)) at old mid next → Puts (record_bytes (chip_at chips c)) next mid new end
-    → Puts (head ++ records_bytes (take (c + 1) chips)) at old new end
-chips_more {old = old} {new = new} {at = at} {end = end} head chips c below before more =
-    let pieces : head ++ records_bytes (take (c + 1) chips) ≡ head ++ records_bytes (take c chips) ++ record_bytes (chip_at chips c) =
-    ap (λ records. head ++ records) (records-take_more chips c below) ∙ sym (append_assoc head (records_bytes (take c chips)) (record_bytes (chip_at chips c))) in
-    subst (λ (bytes : List ℕ). Puts bytes at old new end) (sym pieces) (puts_next before more)
-
 -- there is room for the record of one more chip
 pub record_fits : (head : List ℕ) (chips : List ChipState) (c at : ℕ) (chip : ChipState) → c < length chips → chip ≡ chip_at chips c
     → at ≡ 0 + length (head ++ records_bytes (take c chips)) → at + length (record_bytes chip) ≤ length (head ++ records_bytes chips)
@@ -80,3 +72,15 @@ puts_all {old = old} {new = new} {end = end} head chips c all puts whole =
 pub record IsFilled (head : List ℕ) (chips : List ChipState) (n : ℕ) (old new : List ℕ) (at : ℕ) : Type 0 where
   pub puts : Puts (head ++ records_bytes (take n chips)) 0 old new at
   pub fields : (c : ℕ) → c < n → HasFields (chip_at chips c)
+
+-- one more chip
+pub filled_more : {old mid new : List ℕ} {at next : ℕ} (head : List ℕ) (chips : List ChipState) (c : ℕ) (chip : ChipState) → c < length chips → chip ≡ chip_at chips c
+    → IsFilled head chips c old mid at → Puts (record_bytes chip) at mid new next → HasFields chip → IsFilled head chips (c + 1) old new next
+filled_more {old = old} {new = new} {next = next} head chips c chip below is before more fields =
+    let pieces : head ++ records_bytes (take c chips) ++ record_bytes chip ≡ head ++ records_bytes (take (c + 1) chips) =
+    append_assoc head (records_bytes (take c chips)) (record_bytes chip)
+    ∙ ap (λ records. head ++ records) (ap (λ s. records_bytes (take c chips) ++ record_bytes s) is ∙ sym (records-take_more chips c below)) in
+    record {
+      puts = subst (λ (bytes : List ℕ). Puts bytes 0 old new next) pieces (puts_next before.puts more);
+      fields = below_more (λ (k : ℕ). HasFields (chip_at chips k)) c before.fields (subst (λ (s : ChipState). HasFields s) is fields);
+    }

@@ -10,7 +10,7 @@ use Rattle.nor_cell.specs.declared.device.Device.{Device}
 use Rattle.nor_cell.specs.declared.device.Set.{Set}
 use Rattle.nor_bus.specs.Bus.{chip_at}
 use Rattle.nor_io.specs.Fields.{u32_at}
-use Rattle.nor_image.specs.Image.{device_of, width_of, lanes_of_file, weak_count, size_in, record_place, record_end, chip_in, is_size_by}
+use Rattle.nor_image.specs.Image.{device_of, width_of, lanes_of_file, weak_count, size_in, record_place, chip_in, is_size_by}
 use Rattle.nor_image.specs.declared.error.ImageError.{ImageError}
 use Rattle.nor_image.specs.declared.error.ImageError.TheVariants.{BadMagic, BadHeader, Truncated, Trailing, SizeDiffers, NoMemory}
 use Rattle.nor_image.specs.declared.header.Header.{Header}
@@ -41,7 +41,6 @@ pub record IsHeader (file : List ℕ) (header : Header) : Type 0 where
   pub lanes : header.geometry.lanes ≡ lanes_of_file file
   pub device : header.geometry.device ≡ device_of file
   pub wired : IsTrue (is_wiring (width_of file) (lanes_of_file file) (device_of file))
-  pub whole : 12 ≤ length file
 
 -- what the record that begins at a place says first
 pub record AreNumbers (file : List ℕ) (at : ℕ) (numbers : Numbers) : Type 0 where
@@ -64,7 +63,6 @@ pub record AreStored (file : List ℕ) (device : Device) (at : ℕ) (cells : Cel
   pub fits : IsTrue (is_size_by cells.table (length cells.bytes.items))
   -- as many as lane 0's chip has
   pub same : length cells.bytes.items ≡ size_in file 12
-  pub whole : record_end file at ≤ length file
 
 -- the chips that cells make, just powered on
 abbrev pub chips_of : Set → List Cells → List ChipState

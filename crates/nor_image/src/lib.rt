@@ -27,8 +27,8 @@
 //!
 //! [`read_image`] answers such a bank exactly where the file is well formed, and else the first
 //! refusal, field by field, at its place. [`write_image`] and [`fill_image`] give the file of a bank,
-//! and reading that file gives the bank again, just powered on. A file is never read and written
-//! into something else: the file of the bank that was read is the very file.
+//! and reading that file gives the bank again, just powered on. The file of a bank that was read is
+//! the one that it was read from, byte by byte.
 //!
 //! `specs/Image.antt` has the format as the list of a file's fields, each with its place, its length
 //! and what its value is refused with, and the chip that a record stores. `specs/Written.antt` has

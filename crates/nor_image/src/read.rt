@@ -1,4 +1,4 @@
-ghost use Rattle.std.specs.Prelude.{◌≡◌, ◌<◌, ◌≤◌, ◌^◌, ℕ, length, IfOk, IfErr, None};
+ghost use Rattle.std.specs.Prelude.{◌≡◌, ◌<◌, ◌≤◌, ℕ, IfOk, IfErr, None};
 ghost use Rattle.nor_cell.specs.Bits.{AreBytes};
 ghost use Rattle.nor_bus.specs.Bus.{IsBank, lane as lane_of_bus, lanes_of};
 ghost use Rattle.nor_image.specs.Image.{header_fields, first_refusal, image_refusal, device_of, lanes_of_file, IsImageOf, IsCause};
@@ -17,10 +17,9 @@ use std::alloc::Global;
 
 // The records of all lanes, behind which the file ends.
 fn read_lanes(alloc: Global, file: &[u8], geometry: Geometry) -> Result<Vec<Cells>, ImageError>
-    requires small { length file.now ≤ 2 ^ 30 }
-    requires behind_header { 12 ≤ length file.now }
     requires header { first_refusal file.now (header_fields file.now) ≡ None }
     requires lanes { geometry.lanes ≡ lanes_of_file file.now }
+    requires few { geometry.lanes ≤ 4 }
     requires device { geometry.device ≡ device_of file.now }
     ensures { MayRead (image_refusal file.now) (λ lanes. AreLanes file.now lanes.items) result }
 {
@@ -92,13 +91,12 @@ fn power_up(
     }
 }
 
-/// The bank that a file stands for, just powered on. A file has at most 2^30 bytes.
+/// The bank that a file stands for, just powered on.
 ///
 /// The first refusal in the order of reading is the answer, each at its place in bytes: a field
 /// that isn't whole is `Truncated` where the file ends, one with a bad value is `BadHeader` where
 /// it begins, or `BadMagic` or `SizeDiffers`, and bytes behind the last record are `Trailing`.
 pub fn read_image(alloc: Global, file: &[u8]) -> Result<Loaded, ImageError>
-    requires { length file.now ≤ 2 ^ 30 }
     ensures image { IfOk result (λ loaded.
         IsImageOf file.now (loaded_width loaded) (bus_of loaded).lanes) }
     ensures fresh { IfOk result (λ loaded. IsFreshBus (bus_of loaded)) }

@@ -39,8 +39,7 @@ pub struct Numbers {
 }
 
 fn read_numbers(file: &[u8], at: usize) -> Result<Numbers, ImageError>
-    requires small { length file.now ≤ 2 ^ 30 }
-    requires within { at ≤ length file.now }
+    requires near { at ≤ 2 ^ 30 }
     ensures { Reads (first_refusal file.now (number_fields file.now at)) (AreNumbers file.now at) result }
 {
     Ok(Numbers {
@@ -55,8 +54,7 @@ fn read_numbers(file: &[u8], at: usize) -> Result<Numbers, ImageError>
 }
 
 fn read_table(file: &[u8], at: usize) -> Result<[u8; 512], ImageError>
-    requires small { length file.now ≤ 2 ^ 30 }
-    requires within { at ≤ length file.now }
+    requires near { at ≤ 2 ^ 30 }
     ensures { Reads (refusal_of file.now (table_field at)) (λ table. table ≡ table_in file.now at) result }
 {
     let mut table = [0; 512];
@@ -66,9 +64,8 @@ fn read_table(file: &[u8], at: usize) -> Result<[u8; 512], ImageError>
 
 // The size of a lane's chip, which is that of lane 0's chip.
 fn read_size(file: &[u8], lane: u8, at: usize, table: &[u8; 512]) -> Result<u32, ImageError>
-    requires small { length file.now ≤ 2 ^ 30 }
+    requires near { at ≤ 2 ^ 30 }
     requires behind_header { 12 ≤ at }
-    requires within { at ≤ length file.now }
     requires table { table.now ≡ table_in file.now at }
     ensures read { Reads (refusal_of file.now (size_field file.now lane at)) (λ size. size ≡ size_in file.now at) result }
     ensures sized { IfOk result (λ size. IsTrue (is_chip_size size)) }
@@ -101,8 +98,7 @@ fn read_weak_place(
     size: u32,
     least: u32,
 ) -> Result<u32, ImageError>
-    requires small { length file.now ≤ 2 ^ 30 }
-    requires within { at ≤ length file.now }
+    requires near { at ≤ 2 ^ 30 }
     requires device { device ≡ device_of file.now }
     requires size { size ≡ size_in file.now at }
     requires least { least ≡ least_weak file.now at k }
@@ -123,8 +119,7 @@ fn read_weak(
     count: u16,
     size: u32,
 ) -> Result<Vec<u32>, ImageError>
-    requires small { length file.now ≤ 2 ^ 30 }
-    requires within { at ≤ length file.now }
+    requires near { at ≤ 2 ^ 30 }
     requires device { device ≡ device_of file.now }
     requires size { size ≡ size_in file.now at }
     ensures read { MayRead (first_refusal file.now (weak_fields file.now at count)) (λ weak. weak.items ≡ weak_in file.now at count) result }
@@ -144,12 +139,10 @@ fn read_weak(
 
 // The cells of a chip of so many bytes.
 fn read_cells(alloc: Global, file: &[u8], at: usize, size: u32) -> Result<Vec<u8>, ImageError>
-    requires small { length file.now ≤ 2 ^ 30 }
-    requires near { at < 2 ^ 32 }
+    requires near { at + size < 2 ^ 32 }
     ensures read { MayRead (refusal_of file.now (any_field at size)) (λ cells. cells.items ≡ bytes_at file.now at size) result }
     ensures size { IfOk result (λ cells. length cells.items ≡ size) }
     ensures bytes { IfOk result (λ cells. AreBytes cells.items) }
-    ensures whole { IfOk result (λ cells. at + size ≤ length file.now) }
 {
     let bytes = bytes_field(file, at, size)?;
     Ok(bytes.to_vec(alloc)?)
@@ -163,9 +156,8 @@ pub fn read_record(
     lane: u8,
     at: usize,
 ) -> Result<Cells, ImageError>
-    requires small { length file.now ≤ 2 ^ 30 }
+    requires near { at ≤ 2 ^ 30 }
     requires behind_header { 12 ≤ at }
-    requires within { at ≤ length file.now }
     requires device { device ≡ device_of file.now }
     ensures { MayRead (first_refusal file.now (record_fields file.now lane at)) (AreStored file.now device at) result }
 {

@@ -83,8 +83,7 @@ fn bank_file(alloc: Global, width: u8, device: u8, lanes: &[Lane]) -> Result<Vec
     Ok(file)
 }
 
-fn refusal(rt: &impl Abort, alloc: Global, file: &[u8]) -> Option<ImageError> {
-    assert!(rt; file.len() <= 1 << 30);
+fn refusal(alloc: Global, file: &[u8]) -> Option<ImageError> {
     read_image(alloc, file).err()
 }
 
@@ -107,11 +106,7 @@ fn refuses_each(
 ) -> Result<(), AllocError> {
     for (at, value, refused) in edits {
         let edited = edited(alloc, file, *at, *value)?;
-        assert_eq!(rt;
-            refusal(rt, alloc, &edited),
-            *refused,
-            "byte {at} as {value}"
-        );
+        assert_eq!(rt; refusal(alloc, &edited), *refused, "byte {at} as {value}");
     }
     Ok(())
 }
@@ -148,7 +143,7 @@ fn a_file_that_is_no_banks_is_refused_at_its_place(rt: HostRuntime) -> Result<()
         (two, None),
     ];
     for (k, (file, refused)) in rows.iter().enumerate() {
-        assert_eq!(rt; refusal(&rt, rt.alloc(), file), *refused, "row {k}");
+        assert_eq!(rt; refusal(rt.alloc(), file), *refused, "row {k}");
     }
     Ok(())
 }
@@ -159,10 +154,7 @@ fn a_field_that_has_a_bad_value_is_refused(rt: HostRuntime) -> Result<(), Fail> 
     for at in 0..8 {
         for value in [0, 1, 0x10, 0xFF] {
             let edited = edited(rt.alloc(), &one, at, value)?;
-            assert_eq!(rt;
-                refusal(&rt, rt.alloc(), &edited),
-                Some(ImageError::BadMagic)
-            );
+            assert_eq!(rt; refusal(rt.alloc(), &edited), Some(ImageError::BadMagic));
         }
     }
     refuses_each(
@@ -223,7 +215,7 @@ fn weak_places_ascend_in_whole_units(rt: HostRuntime) -> Result<(), Fail> {
             falls: true,
         };
         let file = bank_file(rt.alloc(), 2, 1, &[lane])?;
-        assert_eq!(rt; refusal(&rt, rt.alloc(), &file), *refused);
+        assert_eq!(rt; refusal(rt.alloc(), &file), *refused);
     }
     Ok(())
 }
@@ -233,14 +225,13 @@ fn a_file_ends_where_its_last_record_does(rt: HostRuntime) -> Result<(), Fail> {
     let file = bank_file(rt.alloc(), 1, 2, &[SMALL])?;
     assert_eq!(rt; file.len(), 4644);
     for at in 0..file.len() {
-        assert_eq!(rt; refusal(&rt, rt.alloc(), &file[..at]), short(at as u32));
+        assert_eq!(rt; refusal(rt.alloc(), &file[..at]), short(at as u32));
     }
     Ok(())
 }
 
 // The bank of a file, and its place among the eight kinds.
-fn load(rt: &impl Abort, alloc: Global, file: &[u8]) -> Result<(Loaded, usize), ImageError> {
-    assert!(rt; file.len() <= 1 << 30);
+fn load(alloc: Global, file: &[u8]) -> Result<(Loaded, usize), ImageError> {
     let bank = read_image(alloc, file)?;
     let kind = match &bank {
         Loaded::Intel8(_) => 0,
@@ -276,7 +267,7 @@ fn a_loaded_bank_is_written_as_it_was_read(rt: HostRuntime) -> Result<(), Fail> 
     ] {
         let file = bank_file(rt.alloc(), width, device, &lanes[..count])?;
         let file = edited(rt.alloc(), &file, 51, set)?;
-        let (bank, found) = load(&rt, rt.alloc(), &file)?;
+        let (bank, found) = load(rt.alloc(), &file)?;
         assert_eq!(rt; found, kind);
         let again = write_image(rt.alloc(), &bank)?;
         assert!(rt; again.as_slice() == file.as_slice(), "kind {kind}");
@@ -287,7 +278,7 @@ fn a_loaded_bank_is_written_as_it_was_read(rt: HostRuntime) -> Result<(), Fail> 
 #[test]
 fn what_a_chip_counts_is_written(rt: HostRuntime) -> Result<(), Fail> {
     let file = bank_file(rt.alloc(), 2, 1, &[RISES])?;
-    if let (Loaded::Intel16(mut bank), _) = load(&rt, rt.alloc(), &file)? {
+    if let (Loaded::Intel16(mut bank), _) = load(rt.alloc(), &file)? {
         // an erase of the first block begins, once that is unlocked
         for code in [0x60, 0xD0, 0x20, 0xD0] {
             assert!(rt; bank.units() > 0);
@@ -310,7 +301,7 @@ fn chips_get_the_blocks_of_their_table(rt: HostRuntime) -> Result<(), Fail> {
     // a table that is refused gives none
     let refused = edited(rt.alloc(), &file, 32 + 0x10, 0)?;
     for (file, blocks, last) in [(&file, 8, 7168), (&refused, 0, 0)] {
-        if let (Loaded::Intel16(bank), _) = load(&rt, rt.alloc(), file)? {
+        if let (Loaded::Intel16(bank), _) = load(rt.alloc(), file)? {
             assert!(rt; bank.units() > 0);
             let found = &bank.chip(0).cells().blocks;
             assert_eq!(rt; found.len(), blocks);

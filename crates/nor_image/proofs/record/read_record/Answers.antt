@@ -1,4 +1,4 @@
-use Rattle.std.proofs.Common.{rules, ◌≡◌, ◌≢◌, ◌+◌, ◌*◌, ℕ, List, length, replicate, arith, Some, None, false, subst, sym, ap, ◌∙◌}
+use Rattle.std.proofs.Common.{rules, ◌≡◌, ◌≢◌, ◌+◌, ◌*◌, ℕ, List, length, replicate, Some, None, false, subst, sym, ap, ◌∙◌}
 use Rattle.nor_cell.specs.Bits.{AreBytes}
 use Rattle.nor_cell.specs.declared.device.Span.{Span}
 use Rattle.nor_query.specs.Derived.{table_blocks}
@@ -83,8 +83,7 @@ returns c =
       locks = made.locks ∙ ap (λ (xs : List Span). replicate (length xs) false) blocks;
       suspends = made.suspends ∙ numbers.suspends;
       erases = made.erases ∙ numbers.erases;
-    } in
-    let whole = c.in_ok-bytes.ensures.whole in (
+    } in (
       in_cells c.args.file.now c.args.lane c.args.at c.in_ok-numbers.ensures.0 c.in_ok-table.ensures.0 c.in_ok-size.ensures.read.0 weak
           ∙ (sym (any_at c.args.file.now _ _ _ _ place size) ∙ c.in_ok-bytes.ensures.read.0),
       record {
@@ -94,6 +93,5 @@ returns c =
         bytes = subst AreBytes (sym made.bytes) c.in_ok-bytes.ensures.bytes;
         fits = (λ i. is_size_by (made.table i) ((ap length made.bytes ∙ c.in_ok-bytes.ensures.size) i)) ∙ c.in_ok-size.ensures.fits;
         same = ap length made.bytes ∙ (c.in_ok-bytes.ensures.size ∙ c.in_ok-size.ensures.same);
-        whole = omega arith;
       },
     )

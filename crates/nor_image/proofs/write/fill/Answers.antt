@@ -1,12 +1,10 @@
 use Rattle.std.proofs.Common.{◌≤◌, ◌<◌, ℕ, List, length, subst, sym, arith}
-use borrow.Author.Count.{below_more}
-use Rattle.nor_cell.specs.Chip.{ChipState}
 use Rattle.nor_cell.specs.declared.device.Device.{Device}
 use Rattle.nor_bus.specs.Bus.{IsBank, chip_at}
 use Rattle.nor_bus.proofs.Sizes.{chip_size}
-use Rattle.nor_image.specs.Written.{header_bytes, record_bytes}
-use Rattle.nor_image.specs.Writing.{Puts, HasFields}
-use Rattle.nor_image.proofs.Putting.{chips_more, record_fits, puts_all}
+use Rattle.nor_image.specs.Written.{header_bytes}
+use Rattle.nor_image.specs.Writing.{Puts}
+use Rattle.nor_image.proofs.Putting.{filled_more, record_fits, puts_all}
 use Rattle.nor_image.proofs.Storing.{file_stands}
 use Rattle.nor_image.proofs.write.fill.Goals as goal
 
@@ -27,13 +25,8 @@ loop-lane-init g c = record {
 pub loop-lane-preserved : goal.loop-lane-preserved
 loop-lane-preserved g c =
     let below : c.loop-lane.lane < length c.args.bank.now.lanes = omega (arith, c.loop-lane-test.true, c.lanes_of-lanes.ensures.value) in
-    record {
-      puts = chips_more (header_bytes g.W.BusWord.WIDTH (chip_at c.args.bank.now.lanes 0).part.device (length c.args.bank.now.lanes)) c.args.bank.now.lanes
-          c.loop-lane.lane below c.loop-lane.invariant.puts
-          (subst (λ (s : ChipState). Puts (record_bytes s) c.loop-lane.at c.loop-lane.file c.put_chip-at.new.file c.put_chip-at.result) c.chip.ensures c.put_chip-at.ensures.bytes);
-      fields = below_more (λ (k : ℕ). HasFields (chip_at c.args.bank.now.lanes k)) c.loop-lane.lane c.loop-lane.invariant.fields
-          (subst (λ (s : ChipState). HasFields s) c.chip.ensures c.put_chip-at.ensures.fields);
-    }
+    filled_more (header_bytes g.W.BusWord.WIDTH (chip_at c.args.bank.now.lanes 0).part.device (length c.args.bank.now.lanes)) c.args.bank.now.lanes
+    c.loop-lane.lane (g.C.Chip.state c.chip.result.now) below c.chip.ensures c.loop-lane.invariant c.put_chip-at.ensures.bytes c.put_chip-at.ensures.fields
 
 pub returns-clause-file : goal.returns-clause-file
 returns-clause-file g c =
