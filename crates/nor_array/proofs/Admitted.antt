@@ -1,20 +1,19 @@
 -- What is known of an entry that an array admits.
-use Rattle.std.proofs.Common.{◌≡◌, ◌<◌, ◌≤◌, ◌+◌, ◌-◌, ℕ, List, [], ◌∷◌, length, take, drop, refl, sym, subst, ap, arith, ◌∙◌, Bool, true, false, ◌⊎◌, inl, inr, Option, Some, None}
-use Rattle.std.specs.Prelude.{not, ◌&&◌, nat_lt, if◌then◌else◌}
-use Rattle.std.proofs.lemmas.Bool.{leb-false, ltb-false}
+use Rattle.std.proofs.Common.{◌≡◌, ◌≤◌, ◌+◌, ℕ, List, [], ◌∷◌, length, take, drop, refl, sym, subst, ap, arith, ◌∙◌, Bool, true, false, ◌⊎◌, inl, inr, Option, Some, None}
+use Rattle.std.specs.Prelude.{not, ◌&&◌}
+use Rattle.std.proofs.lemmas.Bool.{ltb-false}
 use Rattle.std.proofs.lemmas.Option.{same_Some}
 use Rattle.std.proofs.lemmas.List.{length-take, length-drop}
-use Rattle.nor_array.specs.Array.{ArrayState, IsArray, range, open_span}
-use Rattle.nor_array.specs.Refusals.{refusal, first_some, when, kept_halt, while_open, touches, opens_erase, is_outside, is_too_long, has_nothing, needs_locks}
-use Rattle.nor_array.specs.Admits.{Admits, Answers, Unrefused, AsksChips, EndsUnlocked, Ends, FailsWithin, FailsWhole, HaltLeaves, ProgramLeaves, AreUncertain, AllBetween, needs_no_chip, first_locked}
-use Rattle.nor_array.specs.Fits.{HaltFits, HaltIsWhole, LeftFits}
-use Rattle.nor_array.specs.declared.state.OpenErase.{OpenErase}
+use Rattle.nor_array.specs.Array.{ArrayState, range, open_span}
+use Rattle.nor_array.specs.Refusals.{refusal, first_some, when, kept_halt, while_open, is_outside, is_too_long, has_nothing, needs_locks}
+use Rattle.nor_array.specs.Admits.{Admits, Answers, Unrefused, AsksChips, EndsUnlocked, Ends, FailsWithin, FailsWhole, HaltLeaves, ProgramLeaves, AreUncertain, needs_no_chip, first_locked}
+use Rattle.nor_array.specs.Fits.{HaltFits, HaltIsWhole}
 use Rattle.nor_array.specs.declared.state.Power.{Power}
 use Rattle.nor_array.specs.declared.state.Power.TheVariants.{On, Off, Stuck}
 use Rattle.nor_array.specs.declared.entry.Op.{Op}
-use Rattle.nor_array.specs.declared.entry.Op.TheVariants.{Read, Program, EraseOpen, Poll, Lock, Unlock, IsLocked, Arm, PowerOn}
+use Rattle.nor_array.specs.declared.entry.Op.TheVariants.{Program, Poll}
 use Rattle.nor_array.specs.declared.entry.Reply.{Reply}
-use Rattle.nor_array.specs.declared.entry.Reply.TheVariants.{Done, OutOfRange, TooLong, Nothing, NoLocks, Busy, Occupied, Failed, Halted as HaltedReply}
+use Rattle.nor_array.specs.declared.entry.Reply.TheVariants.{OutOfRange, TooLong, Nothing, NoLocks, Failed, Halted as HaltedReply}
 use Rattle.nor_array.specs.declared.entry.Halted.{Halted}
 use Rattle.nor_array.specs.declared.entry.Halted.TheVariants.{Off as OffHalt, Stuck as StuckHalt}
 use Rattle.nor_array.specs.declared.entry.Entry.{Entry}
@@ -121,13 +120,7 @@ FailureFits _ a from to bytes = Unit {0}
 ends_failed : (op : Op) (a : ArrayState) (from to lanes : ℕ) (bytes : List ℕ) → Ends op a (Failed from to lanes) bytes → FailureFits op a from to bytes
 ends_failed (Program at new) a from to lanes bytes ends = ends.1
 ends_failed Poll a from to lanes bytes ends = ends.1
-ends_failed (Read at len) a from to lanes bytes ends = tt
-ends_failed (EraseOpen b) a from to lanes bytes ends = tt
-ends_failed (Lock b) a from to lanes bytes ends = tt
-ends_failed (Unlock b) a from to lanes bytes ends = tt
-ends_failed (IsLocked b) a from to lanes bytes ends = tt
-ends_failed (Arm cut mask) a from to lanes bytes ends = tt
-ends_failed PowerOn a from to lanes bytes ends = tt
+ends_failed op a from to lanes bytes ends = tt
 
 locked_failed : (locked : Option ℕ) (op : Op) (a : ArrayState) (from to lanes : ℕ) (bytes : List ℕ) → EndsUnlocked locked op a (Failed from to lanes) bytes → FailureFits op a from to bytes
 locked_failed None op a from to lanes bytes ends = ends_failed op a from to lanes bytes ends
@@ -161,14 +154,7 @@ halt_is_whole (Program at new) a bytes leaves inside =
     let whole : (open_span a).len ≤ length bytes = reaches (open_span a).len bytes leaves.0 in
     let many = leaves_many (first_locked a (Program at new)) (range a.bytes at (length new)) new (drop (open_span a).len bytes) leaves.1 in
     record { block = whole; rest = omega (arith, length-range a.bytes at (length new) fits, length-drop (open_span a).len bytes) }
-halt_is_whole (Read at len) a bytes leaves inside = record { block = let n = leaves.size in omega arith; rest = tt }
-halt_is_whole (EraseOpen b) a bytes leaves inside = record { block = let n = leaves.size in omega arith; rest = tt }
-halt_is_whole Poll a bytes leaves inside = record { block = let n = leaves.size in omega arith; rest = tt }
-halt_is_whole (Lock b) a bytes leaves inside = record { block = let n = leaves.size in omega arith; rest = tt }
-halt_is_whole (Unlock b) a bytes leaves inside = record { block = let n = leaves.size in omega arith; rest = tt }
-halt_is_whole (IsLocked b) a bytes leaves inside = record { block = let n = leaves.size in omega arith; rest = tt }
-halt_is_whole (Arm cut mask) a bytes leaves inside = record { block = let n = leaves.size in omega arith; rest = tt }
-halt_is_whole PowerOn a bytes leaves inside = record { block = let n = leaves.size in omega arith; rest = tt }
+halt_is_whole op a bytes leaves inside = record { block = let n = leaves.size in omega arith; rest = tt }
 
 halt_fits : (power : Power) (a : ArrayState) (e : Entry) (cause : Halted) → a.power ≡ power → Admits a e → e.reply ≡ HaltedReply cause → HaltFits power e.op a e.bytes
 halt_fits On a e cause is admits same = let halt = admitted_halt a e cause admits same is in halt_is_whole e.op a e.bytes halt.0 halt.1

@@ -1,22 +1,19 @@
 -- Every call has an answer that the array admits.
-use Rattle.std.proofs.Common.{◌≡◌, ◌<◌, ◌≤◌, ◌+◌, ◌-◌, ℕ, zero, suc, List, [], ◌∷◌, length, replicate, slice_index, refl, sym, subst, ap, arith, ◌∙◌, Bool, true, false, cond, inl, inr, Option, Some, None}
-use Rattle.std.specs.Prelude.{bit_and, ◌&&◌, ◌==◌, not, nat_lt, nat_le, is_some, if◌then◌else◌}
+use Rattle.std.proofs.Common.{◌≡◌, ◌<◌, ◌≤◌, ◌+◌, ◌-◌, ℕ, zero, suc, List, [], ◌∷◌, length, replicate, refl, sym, subst, ap, arith, ◌∙◌, Bool, true, false, inl, inr, Option, Some, None}
+use Rattle.std.specs.Prelude.{◌&&◌, nat_le, is_some}
 use Rattle.std.specs.List.{list_any}
-use Rattle.std.specs.Int.Bits.{and_self}
 use Rattle.std.proofs.lemmas.Bool.{and_parts, and_from, or_cases, or_left, or_right, cases_Bool, cond-false, leb-true, ltb-true, lt-ltb, eqb-false}
 use Rattle.std.proofs.lemmas.List.{length-replicate}
-use Rattle.nor_cell.specs.Bits.{IsBetween, AreBytes}
 use Rattle.nor_cell.specs.Chip.{span_end}
 use Rattle.nor_cell.specs.declared.device.Span.{Span}
-use Rattle.nor_array.specs.Array.{ArrayState, IsArray, range, meets, open_span, is_locked}
+use Rattle.nor_array.specs.Array.{ArrayState, range, meets, open_span, is_locked}
 use Rattle.nor_array.specs.Refusals.{refusal}
-use Rattle.nor_array.specs.Admits.{Answers, Unrefused, AsksChips, EndsUnlocked, Ends, ProgramEnds, PollEnds, FailsWithin, FailsWhole, AllBetween, HasItsCaller, needs_no_chip, first_locked, lowest, would_change, span_changes, program_breaks, erase_breaks}
+use Rattle.nor_array.specs.Admits.{Answers, Unrefused, AsksChips, EndsUnlocked, HasItsCaller, needs_no_chip, first_locked, lowest, would_change, span_changes, program_breaks, erase_breaks}
 use Rattle.nor_array.specs.Laws.{Admitted}
 use Rattle.nor_array.specs.declared.entry.Op.{Op}
 use Rattle.nor_array.specs.declared.entry.Op.TheVariants.{Read, Program, EraseOpen, Poll, Lock, Unlock, IsLocked, Arm, PowerOn}
 use Rattle.nor_array.specs.declared.entry.Reply.{Reply}
 use Rattle.nor_array.specs.declared.entry.Reply.TheVariants.{Done, Opened, Erased, Bit, Locked, Failed}
-use Rattle.nor_array.specs.declared.entry.Entry.{Entry}
 use Rattle.nor_array.proofs.Edits.{all_old}
 use Rattle.nor_array.proofs.Puts.{AreBytes-ones}
 

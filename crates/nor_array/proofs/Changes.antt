@@ -1,26 +1,24 @@
 -- What each reply changes of an array, and what it leaves.
-use Rattle.std.proofs.Common.{◌≡◌, ◌≢◌, ◌<◌, ◌≤◌, ◌+◌, ◌-◌, ℕ, List, length, take, drop, replicate, slice_index, refl, sym, subst, ap, arith, ◌∙◌, Bool, true, false, Option, Some, None}
-use Rattle.std.specs.Prelude.{bit_and, ◌&&◌, ◌||◌, ◌==◌, nat_le, nat_lt, IsTrue}
+use Rattle.std.proofs.Common.{◌≡◌, ◌<◌, ◌≤◌, ◌+◌, ◌-◌, ℕ, List, length, take, drop, replicate, refl, sym, subst, ap, arith, ◌∙◌, Bool, true, false, Option, Some, None}
+use Rattle.std.specs.Prelude.{◌&&◌, ◌||◌, nat_le, nat_lt, IsTrue}
 use Rattle.std.specs.Option.{ForSome}
-use Rattle.std.proofs.lemmas.Bool.{and_from, or_left, le-leb, lt-ltb, leb-true, ltb-true, leb-false, ltb-false, eqb-false, eq-eqb, or_right}
+use Rattle.std.proofs.lemmas.Bool.{and_from, or_left, le-leb, lt-ltb, leb-false, ltb-false, eqb-false, or_right}
 use Rattle.std.proofs.lemmas.Option.{none-some, same_Some}
 use Rattle.std.proofs.Math.Seq.{take-length}
-use Rattle.std.proofs.lemmas.List.{length-set, length-replicate, get_or-set_other, length-take-le, length-take, length-drop, get_or-take}
-use Rattle.nor_cell.specs.Bits.{AreBytes, IsBetween}
+use Rattle.std.proofs.lemmas.List.{length-set, length-replicate, get_or-set_other, length-take-le}
 use Rattle.nor_cell.specs.Chip.{is_within, span_end}
 use Rattle.nor_cell.specs.Ranges.{follow_to}
-use Rattle.nor_array.specs.Array.{ArrayState, IsArray, Constants, lie_within, open_span, put, range, is_locked, is_on, powered_locks}
+use Rattle.nor_array.specs.Array.{ArrayState, IsArray, Constants, lie_within, open_span, put, range, is_locked, is_on}
 use Rattle.nor_array.specs.After.{after, after_reply, after_done, after_opened, after_erased, after_failed, after_halted, halted_bytes, closed, programmed, all_and}
 use Rattle.nor_array.specs.Refusals.{is_outside}
-use Rattle.nor_array.specs.Admits.{Admits, AreUncertain, AllBetween, ProgramLeaves, HaltLeaves, FailsWithin, FailsWhole, first_locked}
-use Rattle.nor_array.specs.Laws.{KeepsTheRest, may_change, may_relock, programs_at}
-use Rattle.nor_array.specs.declared.state.OpenErase.{OpenErase}
+use Rattle.nor_array.specs.Admits.{Admits, AreUncertain, AllBetween, ProgramLeaves, HaltLeaves, FailsWithin, first_locked}
+use Rattle.nor_array.specs.Laws.{KeepsTheRest, may_change, may_relock, programs_at, names_under, names_power, names_armed}
 use Rattle.nor_array.specs.declared.state.Power.{Power}
 use Rattle.nor_array.specs.declared.state.Power.TheVariants.{On, Off, Stuck}
 use Rattle.nor_array.specs.declared.entry.Op.{Op}
-use Rattle.nor_array.specs.declared.entry.Op.TheVariants.{Read, Program, EraseOpen, Poll, Lock, Unlock, IsLocked, Arm, PowerOn}
+use Rattle.nor_array.specs.declared.entry.Op.TheVariants.{Program, EraseOpen, Poll, Lock, Unlock, Arm, PowerOn}
 use Rattle.nor_array.specs.declared.entry.Reply.{Reply}
-use Rattle.nor_array.specs.declared.entry.Reply.TheVariants.{Done, Opened, Erased, Bit, OutOfRange, TooLong, Busy, Occupied, Locked, NoLocks, Nothing, NotYet, Failed, Halted as HaltedReply}
+use Rattle.nor_array.specs.declared.entry.Reply.TheVariants.{Done, Opened, Erased, Failed, Halted as HaltedReply}
 use Rattle.nor_array.specs.declared.entry.Halted.{Halted}
 use Rattle.nor_array.specs.declared.entry.Entry.{Entry}
 use Rattle.nor_array.proofs.Arrays.{open_inside}
@@ -52,6 +50,44 @@ changed_array named erased relocked a b is changes = record {
       let P : Constants → Type 0 = λ consts. ForSome b.under (λ open_erase. open_erase.block < length consts.blocks) in
       subst P (sym changes.consts) changes.under;
 }
+
+-- the block under erase, power and the armed cut stay where the reply doesn't name them
+record MarksStay (reply : Reply) (op : Op) (a b : ArrayState) : Type 0 where
+  under : names_under reply op a ≡ false → b.under ≡ a.under
+  power : names_power reply op a ≡ false → b.power ≡ a.power
+  armed : names_armed reply op ≡ false → b.armed ≡ a.armed
+
+done_marks : (op : Op) (a : ArrayState) → MarksStay Done op a (after_done op a)
+done_marks PowerOn a = record { under = λ not. absurd (let no : true ≡ false = not in cc); power = λ not. absurd (let no : true ≡ false = not in cc); armed = λ not. absurd (let no : true ≡ false = not in cc) }
+done_marks (Arm cut mask) a = record { under = λ not. refl; power = λ not. refl; armed = λ not. absurd (let no : true ≡ false = not in cc) }
+done_marks op a = record { under = λ not. refl; power = λ not. refl; armed = λ not. refl }
+
+opened_marks : (op : Op) (caller : ℕ) (a : ArrayState) → MarksStay Opened op a (after_opened op caller a)
+opened_marks (EraseOpen b) caller a = record { under = λ not. absurd (let no : true ≡ false = not in cc); power = λ not. refl; armed = λ not. refl }
+opened_marks op caller a = record { under = λ not. refl; power = λ not. refl; armed = λ not. refl }
+
+erased_marks : (op : Op) (a : ArrayState) → MarksStay Erased op a (after_erased op a)
+erased_marks Poll a = record { under = λ not. absurd (let no : true ≡ false = not in cc); power = λ not. refl; armed = λ not. refl }
+erased_marks op a = record { under = λ not. refl; power = λ not. refl; armed = λ not. refl }
+
+failed_marks : (op : Op) (from to lanes : ℕ) (bytes : List ℕ) (a : ArrayState) → MarksStay (Failed from to lanes) op a (after_failed op from bytes a)
+failed_marks Poll from to lanes bytes a = record { under = λ not. absurd (let no : true ≡ false = not in cc); power = λ not. refl; armed = λ not. refl }
+failed_marks op from to lanes bytes a = record { under = λ not. refl; power = λ not. refl; armed = λ not. refl }
+
+halted_marks : (power : Power) (cause : Halted) (op : Op) (bytes : List ℕ) (a : ArrayState) → a.power ≡ power → MarksStay (HaltedReply cause) op a (after_halted power cause op bytes a)
+halted_marks On cause op bytes a on =
+    let is : is_on a.power ≡ true = ap is_on on in
+    record { under = λ not. absurd (let no : true ≡ false = sym is ∙ not in cc); power = λ not. absurd (let no : true ≡ false = sym is ∙ not in cc); armed = λ not. refl }
+halted_marks Off cause op bytes a on = record { under = λ not. refl; power = λ not. refl; armed = λ not. refl }
+halted_marks (Stuck lane) cause op bytes a on = record { under = λ not. refl; power = λ not. refl; armed = λ not. refl }
+
+marks_stay : (reply : Reply) (e : Entry) (a : ArrayState) → MarksStay reply e.op a (after_reply reply e a)
+marks_stay Done e a = done_marks e.op a
+marks_stay Opened e a = opened_marks e.op e.caller a
+marks_stay Erased e a = erased_marks e.op a
+marks_stay (Failed from to lanes) e a = failed_marks e.op from to lanes e.bytes a
+marks_stay (HaltedReply cause) e a = halted_marks a.power cause e.op e.bytes a refl
+marks_stay reply e a = record { under = λ not. refl; power = λ not. refl; armed = λ not. refl }
 
 module _ (a : ArrayState) (is : IsArray a) where
   -- nothing changes
@@ -92,10 +128,7 @@ module _ (a : ArrayState) (is : IsArray a) where
     under = λ open_erase here. absurd (none-some open_erase here);
   }
   done_changes erased (Arm cut mask) inside = record { consts = refl; edits = no_edit (may_change Done (Arm cut mask) a) erased a.bytes is.bytes; lock_count = refl; locks = λ n not. refl; under = is.under }
-  done_changes erased (Read at len) inside = stays (may_change Done (Read at len) a) erased (may_relock Done (Read at len))
-  done_changes erased (EraseOpen b) inside = stays (may_change Done (EraseOpen b) a) erased (may_relock Done (EraseOpen b))
-  done_changes erased Poll inside = stays (may_change Done Poll a) erased (may_relock Done Poll)
-  done_changes erased (IsLocked b) inside = stays (may_change Done (IsLocked b) a) erased (may_relock Done (IsLocked b))
+  done_changes erased op inside = stays (may_change Done op a) erased (may_relock Done op)
 
   opened_changes : (named erased relocked : ℕ → Bool) (op : Op) (caller : ℕ) → is_outside a op ≡ false → Changes named erased relocked a (after_opened op caller a)
   opened_changes named erased relocked (EraseOpen b) caller inside = record {
@@ -108,14 +141,7 @@ module _ (a : ArrayState) (is : IsArray a) where
         let low : b < length a.consts.blocks = leb-false (length a.consts.blocks) b inside in
         omega arith;
   }
-  opened_changes named erased relocked (Read at len) caller inside = stays named erased relocked
-  opened_changes named erased relocked (Program at new) caller inside = stays named erased relocked
-  opened_changes named erased relocked Poll caller inside = stays named erased relocked
-  opened_changes named erased relocked (Lock b) caller inside = stays named erased relocked
-  opened_changes named erased relocked (Unlock b) caller inside = stays named erased relocked
-  opened_changes named erased relocked (IsLocked b) caller inside = stays named erased relocked
-  opened_changes named erased relocked (Arm cut mask) caller inside = stays named erased relocked
-  opened_changes named erased relocked PowerOn caller inside = stays named erased relocked
+  opened_changes named erased relocked op caller inside = stays named erased relocked
 
   -- the block under erase gets bytes
   in_block : (p : ℕ) (bytes : List ℕ) → length bytes ≡ (open_span a).len → (open_span a).from ≤ p → p < (open_span a).from + length bytes → is_within (open_span a) p ≡ true
@@ -145,14 +171,7 @@ module _ (a : ArrayState) (is : IsArray a) where
   erased_changes : (relocked : ℕ → Bool) (op : Op) → Changes (may_change Erased op a) (is_within (open_span a)) relocked a (after_erased op a)
   erased_changes relocked Poll = closed_changes (may_change Erased Poll a) relocked (replicate (open_span a).len 0xFF)
       (record { size = length-replicate {A = ℕ} (open_span a).len 0xFF; values = AreBytes-ones (open_span a).len }) (λ p within. within)
-  erased_changes relocked (Read at len) = stays (may_change Erased (Read at len) a) (is_within (open_span a)) relocked
-  erased_changes relocked (Program at new) = stays (may_change Erased (Program at new) a) (is_within (open_span a)) relocked
-  erased_changes relocked (EraseOpen b) = stays (may_change Erased (EraseOpen b) a) (is_within (open_span a)) relocked
-  erased_changes relocked (Lock b) = stays (may_change Erased (Lock b) a) (is_within (open_span a)) relocked
-  erased_changes relocked (Unlock b) = stays (may_change Erased (Unlock b) a) (is_within (open_span a)) relocked
-  erased_changes relocked (IsLocked b) = stays (may_change Erased (IsLocked b) a) (is_within (open_span a)) relocked
-  erased_changes relocked (Arm cut mask) = stays (may_change Erased (Arm cut mask) a) (is_within (open_span a)) relocked
-  erased_changes relocked PowerOn = stays (may_change Erased PowerOn a) (is_within (open_span a)) relocked
+  erased_changes relocked op = stays (may_change Erased op a) (is_within (open_span a)) relocked
 
   -- a program that fails
   torn_edit : (named erased : ℕ → Bool) (at : ℕ) (new : List ℕ) (from to : ℕ) (bytes : List ℕ) → at + length new ≤ length a.bytes → FailsWithin a at new from to bytes
@@ -182,13 +201,7 @@ module _ (a : ArrayState) (is : IsArray a) where
     under = is.under;
   }
   failed_changes relocked Poll from to lanes bytes inside fails = closed_changes (may_change (Failed from to lanes) Poll a) relocked bytes fails.left (λ p within. within)
-  failed_changes relocked (Read at len) from to lanes bytes inside fails = stays (may_change (Failed from to lanes) (Read at len) a) (is_within (open_span a)) relocked
-  failed_changes relocked (EraseOpen b) from to lanes bytes inside fails = stays (may_change (Failed from to lanes) (EraseOpen b) a) (is_within (open_span a)) relocked
-  failed_changes relocked (Lock b) from to lanes bytes inside fails = stays (may_change (Failed from to lanes) (Lock b) a) (is_within (open_span a)) relocked
-  failed_changes relocked (Unlock b) from to lanes bytes inside fails = stays (may_change (Failed from to lanes) (Unlock b) a) (is_within (open_span a)) relocked
-  failed_changes relocked (IsLocked b) from to lanes bytes inside fails = stays (may_change (Failed from to lanes) (IsLocked b) a) (is_within (open_span a)) relocked
-  failed_changes relocked (Arm cut mask) from to lanes bytes inside fails = stays (may_change (Failed from to lanes) (Arm cut mask) a) (is_within (open_span a)) relocked
-  failed_changes relocked PowerOn from to lanes bytes inside fails = stays (may_change (Failed from to lanes) PowerOn a) (is_within (open_span a)) relocked
+  failed_changes relocked op from to lanes bytes inside fails = stays (may_change (Failed from to lanes) op a) (is_within (open_span a)) relocked
 
   -- what a halt leaves
   abbrev halt_named : Op → ℕ → Bool
@@ -219,14 +232,7 @@ module _ (a : ArrayState) (is : IsArray a) where
       (leaves_between (first_locked a (Program at new)) (range a.bytes at (length new)) new (drop n bytes) leaves.1)
       (λ p from high. or_left (programs_at (Program at new) p) (within p) (in_range at (length new) p from high))
       (λ p from high not. narrow.kept p not)
-  halted_edit (Read at len) bytes inside leaves = closes (Read at len) bytes leaves
-  halted_edit (EraseOpen b) bytes inside leaves = closes (EraseOpen b) bytes leaves
-  halted_edit Poll bytes inside leaves = closes Poll bytes leaves
-  halted_edit (Lock b) bytes inside leaves = closes (Lock b) bytes leaves
-  halted_edit (Unlock b) bytes inside leaves = closes (Unlock b) bytes leaves
-  halted_edit (IsLocked b) bytes inside leaves = closes (IsLocked b) bytes leaves
-  halted_edit (Arm cut mask) bytes inside leaves = closes (Arm cut mask) bytes leaves
-  halted_edit PowerOn bytes inside leaves = closes PowerOn bytes leaves
+  halted_edit op bytes inside leaves = closes op bytes leaves
 
   -- power is on, so the places are those that the reply names
   on_named : (on named : Bool) → on ≡ true → (on && named) ≡ false → named ≡ false
@@ -258,15 +264,7 @@ module _ (a : ArrayState) (is : IsArray a) where
       failed_changes (may_relock (Failed from to lanes) e.op) e.op from to lanes e.bytes (admitted_inside a e admits (λ out. let no = out ∙ same in cc)) (admitted_failed a e from to lanes admits same)
   reply_changes (HaltedReply cause) e same admits =
       halted_changes a.power (may_relock (HaltedReply cause) e.op) cause e.op e.bytes refl (λ on. admitted_halt a e cause admits same on)
-  reply_changes (Bit locked) e same admits = stays (may_change (Bit locked) e.op a) (is_within (open_span a)) (may_relock (Bit locked) e.op)
-  reply_changes OutOfRange e same admits = stays (may_change OutOfRange e.op a) (is_within (open_span a)) (may_relock OutOfRange e.op)
-  reply_changes TooLong e same admits = stays (may_change TooLong e.op a) (is_within (open_span a)) (may_relock TooLong e.op)
-  reply_changes (Busy b) e same admits = stays (may_change (Busy b) e.op a) (is_within (open_span a)) (may_relock (Busy b) e.op)
-  reply_changes (Occupied b) e same admits = stays (may_change (Occupied b) e.op a) (is_within (open_span a)) (may_relock (Occupied b) e.op)
-  reply_changes (Locked b) e same admits = stays (may_change (Locked b) e.op a) (is_within (open_span a)) (may_relock (Locked b) e.op)
-  reply_changes NoLocks e same admits = stays (may_change NoLocks e.op a) (is_within (open_span a)) (may_relock NoLocks e.op)
-  reply_changes Nothing e same admits = stays (may_change Nothing e.op a) (is_within (open_span a)) (may_relock Nothing e.op)
-  reply_changes NotYet e same admits = stays (may_change NotYet e.op a) (is_within (open_span a)) (may_relock NotYet e.op)
+  reply_changes reply e same admits = stays (may_change reply e.op a) (is_within (open_span a)) (may_relock reply e.op)
 
   pub entry_changes : (e : Entry) → Admits a e → Changes (may_change e.reply e.op a) (is_within (open_span a)) (may_relock e.reply e.op) a (after a e)
   entry_changes e admits = reply_changes e.reply e refl admits
@@ -276,5 +274,15 @@ module _ (a : ArrayState) (is : IsArray a) where
       changed_array (may_change e.reply e.op a) (is_within (open_span a)) (may_relock e.reply e.op) a (after a e) is (entry_changes e admits)
 
   pub rest_stays : (e : Entry) → Admits a e → KeepsTheRest a e
-  rest_stays e admits = let changes = entry_changes e admits in
-      record { consts = changes.consts; size = changes.edits.size; bytes = changes.edits.kept; locks = changes.locks }
+  rest_stays e admits =
+      let changes = entry_changes e admits in
+      let marks = marks_stay e.reply e a in
+      record {
+        consts = changes.consts;
+        size = changes.edits.size;
+        bytes = changes.edits.kept;
+        locks = changes.locks;
+        under = marks.under;
+        power = marks.power;
+        armed = marks.armed;
+      }

@@ -1,5 +1,5 @@
 -- The lowest number that passes a test, step by step.
-use Rattle.std.proofs.Common.{◌≡◌, ◌+◌, ◌<◌, ℕ, zero, suc, ap, arith, ◌∙◌, Bool, true, false, cond, Option, Some, None}
+use Rattle.std.proofs.Common.{◌≡◌, ◌+◌, ◌<◌, ℕ, zero, suc, ap, arith, ◌∙◌, Bool, true, false, cond, Some}
 use Rattle.nor_array.specs.Admits.{lowest}
 
 -- one that fails is passed over

@@ -1,12 +1,12 @@
 -- What stands where after bytes are put in the place of others.
-use Rattle.std.proofs.Common.{◌≡◌, ◌<◌, ◌≤◌, ◌+◌, ◌-◌, ℕ, zero, suc, List, [], ◌∷◌, ◌++◌, length, take, drop, replicate, slice_index, refl, ap, sym, subst, arith, ◌∙◌, inl, inr, lit<, length-append, length-drop}
+use Rattle.std.proofs.Common.{◌≡◌, ◌<◌, ◌≤◌, ◌+◌, ◌-◌, ℕ, zero, suc, List, [], ◌∷◌, ◌++◌, length, take, drop, replicate, slice_index, refl, ap, arith, ◌∙◌, inl, inr, lit<, length-append, length-drop}
 use Rattle.std.specs.Prelude.{bit_and}
 use Rattle.std.proofs.lemmas.Bool.{cases_lt}
 use Rattle.std.proofs.lemmas.List.{length-take, length-take-le, length-replicate, get_or-replicate, get_or_past, get_or-take, get_or-drop, get_or_append_left, get_or-append_right}
 use Rattle.std.proofs.lemmas.Nat.{and_le_l}
 use Rattle.nor_cell.specs.Bits.{AreBytes}
 use Rattle.nor_array.specs.Array.{put, range}
-use Rattle.nor_array.specs.After.{all_and, programmed}
+use Rattle.nor_array.specs.After.{all_and}
 
 module _ (bytes : List ℕ) (at : ℕ) (new : List ℕ) (fits : at + length new ≤ length bytes) where
   -- there are as many as before

@@ -1,5 +1,5 @@
 -- What an entry changes. All that isn't named stays.
-use Rattle.std.specs.Prelude.{◌+◌, ◌-◌, ℕ, List, [], ◌∷◌, take, drop, length, replicate, slice_set, bit_and, Bool, true, false, Option, Some, None}
+use Rattle.std.specs.Prelude.{◌-◌, ℕ, List, [], ◌∷◌, take, drop, length, replicate, slice_set, bit_and, Bool, true, false, Some, None}
 use Rattle.nor_array.specs.Array.{ArrayState, put, range, open_span, powered_locks}
 use Rattle.nor_array.specs.declared.state.Power.{Power}
 use Rattle.nor_array.specs.declared.state.Power.TheVariants.{On, Off, Stuck}

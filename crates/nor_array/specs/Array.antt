@@ -1,5 +1,5 @@
 -- The plain array: what a bank of chips is to its callers.
-use Rattle.std.specs.Prelude.{◌≡◌, ◌<◌, ◌≤◌, ◌+◌, ℕ, List, [], ◌++◌, length, take, drop, replicate, slice_range, slice_index_or, Bool, true, false, ◌&&◌, nat_lt, nat_le, Option, Some, None, IsTrue}
+use Rattle.std.specs.Prelude.{◌≡◌, ◌<◌, ◌+◌, ℕ, List, ◌++◌, length, take, drop, replicate, slice_range, slice_index_or, Bool, true, false, ◌&&◌, nat_lt, nat_le, Option, Some, None, IsTrue}
 use Rattle.std.specs.List.{list_all}
 use Rattle.std.specs.Option.{ForSome}
 use Rattle.nor_cell.specs.Bits.{AreBytes}

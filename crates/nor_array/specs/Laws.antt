@@ -1,5 +1,5 @@
 -- Laws of the definitions, by which they are seen to say what is meant.
-use Rattle.std.specs.Prelude.{◌≡◌, ◌+◌, ◌↔◌, ℕ, List, [], ◌∷◌, ◌++◌, length, slice_index, slice_index_or, bit_and, Bool, true, false, ◌==◌, ◌&&◌, ◌||◌, not, nat_lt, nat_le, Option, Some, None}
+use Rattle.std.specs.Prelude.{◌≡◌, ◌+◌, ◌↔◌, ℕ, List, [], ◌∷◌, ◌++◌, length, slice_index, bit_and, Bool, true, false, ◌==◌, ◌&&◌, ◌||◌, nat_lt, nat_le, Some}
 use Rattle.nor_cell.specs.Chip.{is_within}
 use Rattle.nor_array.specs.Array.{ArrayState, IsArray, open_span, is_on, is_locked}
 use Rattle.nor_array.specs.After.{after, after_all}
@@ -7,9 +7,9 @@ use Rattle.nor_array.specs.Refusals.{refusal}
 use Rattle.nor_array.specs.Admits.{Admits, HasItsCaller}
 use Rattle.nor_array.specs.Legal.{Facts, Agrees, Legal}
 use Rattle.nor_array.specs.declared.entry.Op.{Op}
-use Rattle.nor_array.specs.declared.entry.Op.TheVariants.{Read, Program, EraseOpen, Poll, Lock, Unlock, IsLocked, Arm, PowerOn}
+use Rattle.nor_array.specs.declared.entry.Op.TheVariants.{Program, EraseOpen, Poll, Lock, Unlock, Arm, PowerOn}
 use Rattle.nor_array.specs.declared.entry.Reply.{Reply}
-use Rattle.nor_array.specs.declared.entry.Reply.TheVariants.{Done, Opened, Erased, Bit, OutOfRange, TooLong, Busy, Occupied, Locked, NoLocks, Nothing, NotYet, Failed, Halted as HaltedReply}
+use Rattle.nor_array.specs.declared.entry.Reply.TheVariants.{Done, Opened, Erased, Failed, Halted as HaltedReply}
 use Rattle.nor_array.specs.declared.entry.Entry.{Entry}
 
 -- an entry of this call that the array admits
@@ -51,13 +51,37 @@ may_relock Done (Unlock b) block = b == block
 may_relock Done PowerOn block = true
 may_relock _ op block = false
 
--- What an entry doesn't name stays: the constants, the bytes outside the block under erase and the range of a program, and
--- the locks but for the one of a lock call, and all of them at power-on.
+-- the entry begins or ends an erase
+abbrev pub names_under : Reply → Op → ArrayState → Bool
+names_under Done PowerOn a = true
+names_under Opened (EraseOpen b) a = true
+names_under Erased Poll a = true
+names_under (Failed from to lanes) Poll a = true
+names_under (HaltedReply cause) op a = is_on a.power
+names_under _ op a = false
+
+-- the entry turns power on, or is a first halt
+abbrev pub names_power : Reply → Op → ArrayState → Bool
+names_power Done PowerOn a = true
+names_power (HaltedReply cause) op a = is_on a.power
+names_power _ op a = false
+
+-- the entry arms a cut, or power-on drops it
+abbrev pub names_armed : Reply → Op → Bool
+names_armed Done (Arm cut mask) = true
+names_armed Done PowerOn = true
+names_armed _ op = false
+
+-- What an entry doesn't name stays: the constants, the bytes outside the block under erase and the range of a program, the
+-- locks but for the one of a lock call and all of them at power-on, the erase under way, power and the armed cut.
 pub record KeepsTheRest (a : ArrayState) (e : Entry) : Type 0 where
   pub consts : (after a e).consts ≡ a.consts
   pub size : length (after a e).bytes ≡ length a.bytes
   pub bytes : (p : ℕ) → may_change e.reply e.op a p ≡ false → slice_index (after a e).bytes p ≡ slice_index a.bytes p
   pub locks : (b : ℕ) → may_relock e.reply e.op b ≡ false → is_locked (after a e) b ≡ is_locked a b
+  pub under : names_under e.reply e.op a ≡ false → (after a e).under ≡ a.under
+  pub power : names_power e.reply e.op a ≡ false → (after a e).power ≡ a.power
+  pub armed : names_armed e.reply e.op ≡ false → (after a e).armed ≡ a.armed
 
 abbrev pub EntriesKeepTheRest : Type 0
 EntriesKeepTheRest = (a : ArrayState) (e : Entry) → IsArray a → Admits a e → KeepsTheRest a e

@@ -1,5 +1,5 @@
 -- Legal histories: what a bank of these facts may have answered, call after call.
-use Rattle.std.specs.Prelude.{◌≡◌, ◌<◌, ◌≤◌, ◌+◌, ◌-◌, ◌*◌, ◌/◌, ◌^◌, ℕ, min, max, List, [], ◌∷◌, length, slice_index, slice_index_or, bit_and, Bool, true, false, not, ◌==◌, ◌&&◌, Option, None, is_some}
+use Rattle.std.specs.Prelude.{◌≡◌, ◌<◌, ◌+◌, ◌-◌, ◌*◌, ◌/◌, ◌^◌, ℕ, min, max, List, [], ◌∷◌, length, slice_index, slice_index_or, bit_and, Bool, true, false, not, ◌==◌, ◌&&◌, None, is_some}
 use Rattle.std.specs.List.{list_any}
 use Rattle.nor_cell.specs.Bits.{has_bit, unit_len}
 use Rattle.nor_cell.specs.Chip.{block_at}
@@ -12,7 +12,7 @@ use Rattle.nor_array.specs.Array.{ArrayState, is_on, is_open, meets}
 use Rattle.nor_array.specs.After.{after}
 use Rattle.nor_array.specs.Admits.{Admits, lowest, first_locked, would_change, span_changes}
 use Rattle.nor_array.specs.declared.entry.Op.{Op}
-use Rattle.nor_array.specs.declared.entry.Op.TheVariants.{Read, Program, EraseOpen, Poll, Lock, Unlock, IsLocked, Arm, PowerOn}
+use Rattle.nor_array.specs.declared.entry.Op.TheVariants.{Read, Program, Poll, Lock, Unlock, IsLocked}
 use Rattle.nor_array.specs.declared.entry.Reply.{Reply}
 use Rattle.nor_array.specs.declared.entry.Reply.TheVariants.{NotYet, Failed, Halted as HaltedReply}
 use Rattle.nor_array.specs.declared.entry.Halted.TheVariants.{Stuck as StuckHalt}

@@ -1,8 +1,7 @@
 //! Whether an array admits an entry, decided in the plainest way.
 ghost use Rattle.std.specs.Prelude.{◌≡◌, ◌<◌, ◌≤◌, ◌+◌, ◌-◌, ◌↔◌, ◌&&◌, length, IsTrue};
-ghost use Rattle.std.specs.List.{list_any};
 ghost use Rattle.nor_cell.specs.Chip.{span_end};
-ghost use Rattle.nor_array.specs.Array.{open_span, is_locked, is_open, meets};
+ghost use Rattle.nor_array.specs.Array.{open_span, is_locked, meets};
 ghost use Rattle.nor_array.specs.Refusals.{touches};
 ghost use Rattle.nor_array.specs.Admits.{lowest, HasItsCaller, needs_no_chip, may_wait, IsArmed, may_stick, needs_unlocked, first_locked, AreUncertain, ProgramLeaves, HaltLeaves, erase_breaks, FailsWhole, PollEnds, Ends, EndsUnlocked, AsksChips, Admits};
 

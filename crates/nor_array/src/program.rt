@@ -1,5 +1,5 @@
 //! Where a program would change bytes, and what it may leave.
-ghost use Rattle.std.specs.Prelude.{◌≡◌, ◌<◌, ◌≤◌, ◌+◌, ◌-◌, ◌↔◌, ◌&&◌, nat_le, length, slice_index, IsTrue};
+ghost use Rattle.std.specs.Prelude.{◌≡◌, ◌<◌, ◌+◌, ◌-◌, ◌↔◌, ◌&&◌, nat_le, slice_index, IsTrue};
 ghost use Rattle.std.specs.List.{list_any};
 ghost use Rattle.nor_cell.specs.Chip.{span_end};
 ghost use Rattle.nor_array.specs.Array.{range, meets};

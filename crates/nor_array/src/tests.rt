@@ -9,61 +9,6 @@ use std::alloc::Global;
 use std::process::Abort;
 use std::test::Fail;
 
-// Eight blocks of 1,024 bytes of 0xFF, all unlocked, with a weak device word in block 1.
-fn bank(alloc: Global, has_locks: bool, locked: bool) -> Result<PlainArray, Fail> {
-    let region = Region {
-        count: 8,
-        size: 1024,
-    };
-    let map = block_map(&[region], false, 8192)?;
-    let word = Span {
-        from: 0x404,
-        len: 2,
-    };
-    let weak = vec![in alloc; word]?;
-    let consts = Consts {
-        map,
-        has_locks,
-        locked,
-        weak,
-    };
-    Ok(plain(alloc, &[0xFF; 8192], consts)?)
-}
-
-fn program(alloc: Global, at: u32, new: &[u8]) -> Result<Op, NoMemory> {
-    let new = make_bytes(alloc, new)?;
-    Ok(Op::Program { at, new })
-}
-
-fn entry(alloc: Global, caller: u8, op: Op, reply: Reply, bytes: &[u8]) -> Result<Entry, NoMemory> {
-    let bytes = make_bytes(alloc, bytes)?;
-    Ok(Entry {
-        caller,
-        op,
-        reply,
-        bytes,
-    })
-}
-
-// The array admits the entry, and goes on as it says.
-fn goes_on(rt: &impl Abort, array: &mut PlainArray, entry: &Entry) {
-    assert!(rt; admits(array, entry));
-    apply(array, entry);
-}
-
-// The entry has no bytes.
-fn does(
-    rt: &impl Abort,
-    alloc: Global,
-    array: &mut PlainArray,
-    caller: u8,
-    op: Op,
-    reply: Reply,
-) -> Result<(), NoMemory> {
-    goes_on(rt, array, &entry(alloc, caller, op, reply, &[])?);
-    Ok(())
-}
-
 const OTHERS: [Reply; 22] = [
     Reply::Done,
     Reply::Opened,
@@ -93,28 +38,89 @@ const OTHERS: [Reply; 22] = [
     Reply::Halted(Halted::Off { after: 0 }),
 ];
 
-// This reply is admitted with no bytes, and neither another one nor a byte with it.
-fn has_one_answer(
-    rt: &impl Abort,
+// An array, and memory for what it is asked.
+#[derive(Drop)]
+struct Trial {
+    array: PlainArray,
     alloc: Global,
-    array: &PlainArray,
-    caller: u8,
-    op: Op,
-    reply: Reply,
-) -> Result<(), NoMemory> {
-    let mut told = entry(alloc, caller, op, reply, &[])?;
-    assert!(rt; admits(array, &told), "{reply:?}");
-    for other in OTHERS {
-        told.reply = other;
-        assert!(rt;
-            other == reply || !admits(array, &told),
-            "{reply:?} and {other:?}"
-        );
+}
+
+// Eight blocks of 1,024 bytes of 0xFF, with a weak device word in block 1. Each lock stands as told.
+fn bank(alloc: Global, has_locks: bool, locked: bool) -> Result<Trial, Fail> {
+    let region = Region {
+        count: 8,
+        size: 1024,
+    };
+    let map = block_map(&[region], false, 8192)?;
+    let word = Span {
+        from: 0x404,
+        len: 2,
+    };
+    let weak = vec![in alloc; word]?;
+    let consts = Consts {
+        map,
+        has_locks,
+        locked,
+        weak,
+    };
+    let array = plain(alloc, &[0xFF; 8192], consts)?;
+    Ok(Trial { array, alloc })
+}
+
+impl Trial {
+    fn program(&self, at: u32, new: &[u8]) -> Result<Op, NoMemory> {
+        let new = make_bytes(self.alloc, new)?;
+        Ok(Op::Program { at, new })
     }
-    told.reply = reply;
-    told.bytes = make_bytes(alloc, &[0])?;
-    assert!(rt; !admits(array, &told), "{reply:?} with a byte");
-    Ok(())
+
+    fn entry(&self, caller: u8, op: Op, reply: Reply, bytes: &[u8]) -> Result<Entry, NoMemory> {
+        let bytes = make_bytes(self.alloc, bytes)?;
+        Ok(Entry {
+            caller,
+            op,
+            reply,
+            bytes,
+        })
+    }
+
+    fn admits(&self, entry: &Entry) -> bool {
+        admits(&self.array, entry)
+    }
+
+    // The array admits the entry, and goes on as it says.
+    fn goes_on(&mut self, rt: &impl Abort, entry: &Entry) {
+        assert!(rt; admits(&self.array, entry));
+        apply(&mut self.array, entry);
+    }
+
+    // The same with no bytes.
+    fn does(&mut self, rt: &impl Abort, caller: u8, op: Op, reply: Reply) -> Result<(), NoMemory> {
+        let entry = self.entry(caller, op, reply, &[])?;
+        self.goes_on(rt, &entry);
+        Ok(())
+    }
+
+    // This reply is admitted with no bytes, and neither another one nor a byte with it.
+    fn answers(&self, rt: &impl Abort, caller: u8, op: Op, reply: Reply) -> Result<(), NoMemory> {
+        let mut told = self.entry(caller, op, reply, &[])?;
+        assert!(rt; self.admits(&told), "{reply:?}");
+        for other in OTHERS {
+            told.reply = other;
+            assert!(rt;
+                other == reply || !self.admits(&told),
+                "{reply:?} and {other:?}"
+            );
+        }
+        told.reply = reply;
+        told.bytes = make_bytes(self.alloc, &[0])?;
+        assert!(rt; !self.admits(&told), "{reply:?} with a byte");
+        Ok(())
+    }
+
+    // The byte at a place.
+    fn byte(&self, at: usize) -> Option<u8> {
+        bytes_of(&self.array).get(at).copied()
+    }
 }
 
 #[test]
@@ -130,37 +136,24 @@ fn a_program_and_a_read(rt: HostRuntime) -> Result<(), Fail> {
         locked: false,
         weak: Vec::new(alloc),
     };
-    let mut array = plain(alloc, &[0xFF; 4096], consts)?;
-    does(
-        &rt,
-        alloc,
-        &mut array,
-        1,
-        program(alloc, 1, &[0xF0])?,
-        Reply::Done,
-    )?;
+    let array = plain(alloc, &[0xFF; 4096], consts)?;
+    let mut trial = Trial { array, alloc };
+    let op = trial.program(1, &[0xF0])?;
+    trial.does(&rt, 1, op, Reply::Done)?;
     let read = Op::Read { at: 0, len: 4 };
-    let mut told = entry(alloc, 1, read, Reply::Done, &[0xFF, 0xF0, 0xFF, 0xFF])?;
-    assert!(rt; admits(&array, &told));
+    let mut told = trial.entry(1, read, Reply::Done, &[0xFF, 0xF0, 0xFF, 0xFF])?;
+    assert!(rt; trial.admits(&told));
     told.bytes = make_bytes(alloc, &[0xFF, 0xFF, 0xFF, 0xFF])?;
-    assert!(rt; !admits(&array, &told));
+    assert!(rt; !trial.admits(&told));
     told.bytes = make_bytes(alloc, &[0xFF, 0xF0, 0xFF])?;
-    assert!(rt; !admits(&array, &told));
+    assert!(rt; !trial.admits(&told));
     Ok(())
 }
 
 #[test]
 fn refusals_come_in_their_order(rt: HostRuntime) -> Result<(), Fail> {
-    let alloc = rt.alloc();
-    let mut array = bank(alloc, true, false)?;
-    does(
-        &rt,
-        alloc,
-        &mut array,
-        1,
-        Op::EraseOpen { block: 2 },
-        Reply::Opened,
-    )?;
+    let mut trial = bank(rt.alloc(), true, false)?;
+    trial.does(&rt, 1, Op::EraseOpen { block: 2 }, Reply::Opened)?;
     // Each is the next one's reason too, or wrong by one byte, one block or one caller.
     for (caller, at, len, reply) in [
         (1, 8193, 0, Reply::OutOfRange),
@@ -173,207 +166,94 @@ fn refusals_come_in_their_order(rt: HostRuntime) -> Result<(), Fail> {
         (2, 0x800, 0, Reply::Done),
         (1, 8192, 0, Reply::Done),
     ] {
-        has_one_answer(&rt, alloc, &array, caller, Op::Read { at, len }, reply)?;
+        trial.answers(&rt, caller, Op::Read { at, len }, reply)?;
     }
     for (block, reply) in [
         (8, Reply::OutOfRange),
         (2, Reply::Busy { block: 2 }),
         (7, Reply::Occupied { block: 2 }),
     ] {
-        has_one_answer(&rt, alloc, &array, 3, Op::EraseOpen { block }, reply)?;
+        trial.answers(&rt, 3, Op::EraseOpen { block }, reply)?;
     }
-    has_one_answer(&rt, alloc, &array, 2, Op::Poll, Reply::Nothing)?;
-    has_one_answer(&rt, alloc, &array, 0, Op::PowerOn, Reply::Nothing)?;
-    has_one_answer(
-        &rt,
-        alloc,
-        &array,
-        1,
-        Op::Lock { block: 2 },
-        Reply::Busy { block: 2 },
-    )?;
-    has_one_answer(
-        &rt,
-        alloc,
-        &array,
-        1,
-        Op::Unlock { block: 8 },
-        Reply::OutOfRange,
-    )?;
+    trial.answers(&rt, 2, Op::Poll, Reply::Nothing)?;
+    trial.answers(&rt, 0, Op::PowerOn, Reply::Nothing)?;
+    trial.answers(&rt, 1, Op::Lock { block: 2 }, Reply::Busy { block: 2 })?;
+    trial.answers(&rt, 1, Op::Unlock { block: 8 }, Reply::OutOfRange)?;
     Ok(())
 }
 
 #[test]
 fn locks_are_offered_or_not(rt: HostRuntime) -> Result<(), Fail> {
-    let alloc = rt.alloc();
-    let mut array = bank(alloc, true, true)?;
+    let mut trial = bank(rt.alloc(), true, true)?;
     let locked = Reply::Locked { block: 0 };
-    has_one_answer(
-        &rt,
-        alloc,
-        &array,
-        1,
-        program(alloc, 0x3FF, &[0, 0])?,
-        locked,
-    )?;
-    has_one_answer(
-        &rt,
-        alloc,
-        &array,
-        1,
-        Op::IsLocked { block: 1 },
-        Reply::Bit(true),
-    )?;
-    does(
-        &rt,
-        alloc,
-        &mut array,
-        1,
-        Op::Unlock { block: 0 },
-        Reply::Done,
-    )?;
+    trial.answers(&rt, 1, trial.program(0x3FF, &[0, 0])?, locked)?;
+    trial.answers(&rt, 1, Op::IsLocked { block: 1 }, Reply::Bit(true))?;
+    trial.does(&rt, 1, Op::Unlock { block: 0 }, Reply::Done)?;
     let locked = Reply::Locked { block: 1 };
-    has_one_answer(
-        &rt,
-        alloc,
-        &array,
-        1,
-        program(alloc, 0x3FF, &[0, 0])?,
-        locked,
-    )?;
-    has_one_answer(
-        &rt,
-        alloc,
-        &array,
-        1,
-        program(alloc, 0x3FF, &[0])?,
-        Reply::Done,
-    )?;
-    has_one_answer(
-        &rt,
-        alloc,
-        &array,
-        1,
-        Op::EraseOpen { block: 0 },
-        Reply::Opened,
-    )?;
-    does(
-        &rt,
-        alloc,
-        &mut array,
-        1,
-        Op::Lock { block: 0 },
-        Reply::Done,
-    )?;
-    has_one_answer(
-        &rt,
-        alloc,
-        &array,
-        1,
-        Op::IsLocked { block: 0 },
-        Reply::Bit(true),
-    )?;
-    has_one_answer(&rt, alloc, &array, 1, Op::EraseOpen { block: 1 }, locked)?;
-    let none = bank(alloc, false, false)?;
-    has_one_answer(&rt, alloc, &none, 1, Op::Lock { block: 0 }, Reply::NoLocks)?;
-    has_one_answer(
-        &rt,
-        alloc,
-        &none,
-        1,
-        Op::IsLocked { block: 0 },
-        Reply::NoLocks,
-    )?;
+    trial.answers(&rt, 1, trial.program(0x3FF, &[0, 0])?, locked)?;
+    trial.answers(&rt, 1, trial.program(0x3FF, &[0])?, Reply::Done)?;
+    trial.answers(&rt, 1, Op::EraseOpen { block: 0 }, Reply::Opened)?;
+    trial.does(&rt, 1, Op::Lock { block: 0 }, Reply::Done)?;
+    trial.answers(&rt, 1, Op::IsLocked { block: 0 }, Reply::Bit(true))?;
+    trial.answers(&rt, 1, Op::EraseOpen { block: 1 }, locked)?;
+    let none = bank(rt.alloc(), false, false)?;
+    none.answers(&rt, 1, Op::Lock { block: 0 }, Reply::NoLocks)?;
+    none.answers(&rt, 1, Op::IsLocked { block: 0 }, Reply::NoLocks)?;
     Ok(())
-}
-
-// The byte at a place of the array.
-fn byte(array: &PlainArray, at: usize) -> Option<u8> {
-    bytes_of(array).get(at).copied()
 }
 
 #[test]
 fn a_read_beside_an_open_block_has_choices(rt: HostRuntime) -> Result<(), Fail> {
-    let alloc = rt.alloc();
-    let mut array = bank(alloc, true, false)?;
-    let mut told = entry(alloc, 2, Op::Read { at: 0x7FE, len: 2 }, Reply::NotYet, &[])?;
+    let mut trial = bank(rt.alloc(), true, false)?;
+    let mut told = trial.entry(2, Op::Read { at: 0x7FE, len: 2 }, Reply::NotYet, &[])?;
     let stuck = Reply::Halted(Halted::Stuck { lane: 1 });
-    assert!(rt; !admits(&array, &told));
+    assert!(rt; !trial.admits(&told));
     told.reply = stuck;
-    assert!(rt; !admits(&array, &told));
-    does(
-        &rt,
-        alloc,
-        &mut array,
-        1,
-        Op::EraseOpen { block: 2 },
-        Reply::Opened,
-    )?;
-    assert!(rt; !admits(&array, &told));
-    told.bytes = make_bytes(alloc, &[7; 1024])?;
-    assert!(rt; admits(&array, &told));
+    assert!(rt; !trial.admits(&told));
+    trial.does(&rt, 1, Op::EraseOpen { block: 2 }, Reply::Opened)?;
+    assert!(rt; !trial.admits(&told));
+    told.bytes = make_bytes(trial.alloc, &[7; 1024])?;
+    assert!(rt; trial.admits(&told));
     told.reply = Reply::Halted(Halted::Off { after: 0 });
-    assert!(rt; !admits(&array, &told));
-    told.bytes = make_bytes(alloc, &[])?;
+    assert!(rt; !trial.admits(&told));
+    told.bytes = make_bytes(trial.alloc, &[])?;
     told.reply = Reply::NotYet;
-    assert!(rt; admits(&array, &told));
-    told.bytes = make_bytes(alloc, &[0xFF, 0xFF])?;
-    assert!(rt; !admits(&array, &told));
+    assert!(rt; trial.admits(&told));
+    told.bytes = make_bytes(trial.alloc, &[0xFF, 0xFF])?;
+    assert!(rt; !trial.admits(&told));
     told.reply = Reply::Done;
-    assert!(rt; admits(&array, &told));
+    assert!(rt; trial.admits(&told));
     Ok(())
 }
 
 #[test]
 fn an_erase_ends_with_ones(rt: HostRuntime) -> Result<(), Fail> {
-    let alloc = rt.alloc();
-    let mut array = bank(alloc, true, false)?;
-    does(
-        &rt,
-        alloc,
-        &mut array,
-        1,
-        program(alloc, 0x7FF, &[0, 0])?,
-        Reply::Done,
-    )?;
-    does(
-        &rt,
-        alloc,
-        &mut array,
-        1,
-        Op::EraseOpen { block: 2 },
-        Reply::Opened,
-    )?;
-    does(&rt, alloc, &mut array, 1, Op::Poll, Reply::NotYet)?;
+    let mut trial = bank(rt.alloc(), true, false)?;
+    let op = trial.program(0x7FF, &[0, 0])?;
+    trial.does(&rt, 1, op, Reply::Done)?;
+    trial.does(&rt, 1, Op::EraseOpen { block: 2 }, Reply::Opened)?;
+    trial.does(&rt, 1, Op::Poll, Reply::NotYet)?;
     let failed = Reply::Failed {
         from: 0x800,
         to: 0xC00,
         lanes: 1,
     };
-    let told = entry(alloc, 1, Op::Poll, failed, &[0; 1024])?;
-    assert!(rt; !admits(&array, &told));
-    does(&rt, alloc, &mut array, 1, Op::Poll, Reply::Erased)?;
+    let told = trial.entry(1, Op::Poll, failed, &[0; 1024])?;
+    assert!(rt; !trial.admits(&told));
+    trial.does(&rt, 1, Op::Poll, Reply::Erased)?;
     for (at, left) in [(0x7FF, 0), (0x800, 0xFF), (0xBFF, 0xFF)] {
-        assert_eq!(rt; byte(&array, at), Some(left));
+        assert_eq!(rt; trial.byte(at), Some(left));
     }
-    has_one_answer(&rt, alloc, &array, 1, Op::Poll, Reply::Nothing)?;
+    trial.answers(&rt, 1, Op::Poll, Reply::Nothing)?;
     Ok(())
 }
 
 #[test]
 fn an_erase_over_a_weak_place_fails(rt: HostRuntime) -> Result<(), Fail> {
-    let alloc = rt.alloc();
-    let mut array = bank(alloc, true, false)?;
-    does(
-        &rt,
-        alloc,
-        &mut array,
-        1,
-        Op::EraseOpen { block: 1 },
-        Reply::Opened,
-    )?;
-    let mut told = entry(alloc, 1, Op::Poll, Reply::Erased, &[])?;
-    assert!(rt; !admits(&array, &told));
+    let mut trial = bank(rt.alloc(), true, false)?;
+    trial.does(&rt, 1, Op::EraseOpen { block: 1 }, Reply::Opened)?;
+    let mut told = trial.entry(1, Op::Poll, Reply::Erased, &[])?;
+    assert!(rt; !trial.admits(&told));
     for (from, to, len, fits) in [
         (0x400, 0x800, 1023, false),
         (0x401, 0x800, 1024, false),
@@ -381,35 +261,27 @@ fn an_erase_over_a_weak_place_fails(rt: HostRuntime) -> Result<(), Fail> {
         (0x400, 0x800, 1024, true),
     ] {
         told.reply = Reply::Failed { from, to, lanes: 1 };
-        let left = vec![in alloc; 0xA5; len]?;
-        told.bytes = make_bytes(alloc, &left)?;
-        assert_eq!(rt; admits(&array, &told), fits);
+        let left = vec![in trial.alloc; 0xA5; len]?;
+        told.bytes = make_bytes(trial.alloc, &left)?;
+        assert_eq!(rt; trial.admits(&told), fits);
     }
-    goes_on(&rt, &mut array, &told);
+    trial.goes_on(&rt, &told);
     for (at, left) in [(0x3FF, 0xFF), (0x400, 0xA5), (0x7FF, 0xA5), (0x800, 0xFF)] {
-        assert_eq!(rt; byte(&array, at), Some(left));
+        assert_eq!(rt; trial.byte(at), Some(left));
     }
-    has_one_answer(&rt, alloc, &array, 1, Op::Poll, Reply::Nothing)?;
+    trial.answers(&rt, 1, Op::Poll, Reply::Nothing)?;
     Ok(())
 }
 
 #[test]
 fn a_program_over_a_weak_place_fails_there(rt: HostRuntime) -> Result<(), Fail> {
-    let alloc = rt.alloc();
-    let mut array = bank(alloc, true, false)?;
+    let mut trial = bank(rt.alloc(), true, false)?;
     // It would change only where a datum lacks a bit.
     let spared = [0, 0xFF, 0xFF, 0];
-    has_one_answer(
-        &rt,
-        alloc,
-        &array,
-        1,
-        program(alloc, 0x403, &spared)?,
-        Reply::Done,
-    )?;
-    let op = program(alloc, 0x403, &[0, 0xFF, 0x0F, 0])?;
-    let mut told = entry(alloc, 1, op, Reply::Done, &[])?;
-    assert!(rt; !admits(&array, &told));
+    trial.answers(&rt, 1, trial.program(0x403, &spared)?, Reply::Done)?;
+    let op = trial.program(0x403, &[0, 0xFF, 0x0F, 0])?;
+    let mut told = trial.entry(1, op, Reply::Done, &[])?;
+    assert!(rt; !trial.admits(&told));
     for (from, to, left, fits) in [
         (0x403, 0x407, [0x00, 0xFF, 0x0F, 0x00].as_slice(), true),
         (0x406, 0x407, &[0x00], false),
@@ -422,10 +294,10 @@ fn a_program_over_a_weak_place_fails_there(rt: HostRuntime) -> Result<(), Fail> 
         (0x404, 0x406, &[0xFF, 0x8F], true),
     ] {
         told.reply = Reply::Failed { from, to, lanes: 1 };
-        told.bytes = make_bytes(alloc, left)?;
-        assert_eq!(rt; admits(&array, &told), fits, "{from} to {to}");
+        told.bytes = make_bytes(trial.alloc, left)?;
+        assert_eq!(rt; trial.admits(&told), fits, "{from} to {to}");
     }
-    goes_on(&rt, &mut array, &told);
+    trial.goes_on(&rt, &told);
     for (at, left) in [
         (0x402, 0xFF),
         (0x403, 0),
@@ -433,54 +305,32 @@ fn a_program_over_a_weak_place_fails_there(rt: HostRuntime) -> Result<(), Fail> 
         (0x405, 0x8F),
         (0x406, 0xFF),
     ] {
-        assert_eq!(rt; byte(&array, at), Some(left));
+        assert_eq!(rt; trial.byte(at), Some(left));
     }
     Ok(())
 }
 
 #[test]
 fn power_is_lost_in_a_program_beside_an_erase(rt: HostRuntime) -> Result<(), Fail> {
-    let alloc = rt.alloc();
-    let mut array = bank(alloc, true, false)?;
-    does(
-        &rt,
-        alloc,
-        &mut array,
-        2,
-        Op::Lock { block: 5 },
-        Reply::Done,
-    )?;
-    let by_a_caller = entry(alloc, 1, Op::Arm { after: 7, mask: 0 }, Reply::Done, &[])?;
-    assert!(rt; !admits(&array, &by_a_caller));
-    does(
-        &rt,
-        alloc,
-        &mut array,
-        0,
-        Op::Arm { after: 7, mask: 0 },
-        Reply::Done,
-    )?;
-    does(
-        &rt,
-        alloc,
-        &mut array,
-        1,
-        Op::EraseOpen { block: 2 },
-        Reply::Opened,
-    )?;
+    let mut trial = bank(rt.alloc(), true, false)?;
+    trial.does(&rt, 2, Op::Lock { block: 5 }, Reply::Done)?;
+    let by_a_caller = trial.entry(1, Op::Arm { after: 7, mask: 0 }, Reply::Done, &[])?;
+    assert!(rt; !trial.admits(&by_a_caller));
+    trial.does(&rt, 0, Op::Arm { after: 7, mask: 0 }, Reply::Done)?;
+    trial.does(&rt, 1, Op::EraseOpen { block: 2 }, Reply::Opened)?;
     let off = Reply::Halted(Halted::Off { after: 7 });
-    let mut left = vec![in alloc; 0xA5; 1024]?;
-    let mut told = entry(alloc, 2, program(alloc, 0x7FE, &[0x0F, 0])?, off, &left)?;
-    assert!(rt; !admits(&array, &told));
+    let mut left = vec![in trial.alloc; 0xA5; 1024]?;
+    let mut told = trial.entry(2, trial.program(0x7FE, &[0x0F, 0])?, off, &left)?;
+    assert!(rt; !trial.admits(&told));
     for byte in [0x3F, 0x81] {
         left.push(byte)?;
     }
-    told.bytes = make_bytes(alloc, &left)?;
-    assert!(rt; admits(&array, &told));
+    told.bytes = make_bytes(trial.alloc, &left)?;
+    assert!(rt; trial.admits(&told));
     told.reply = Reply::Halted(Halted::Off { after: 8 });
-    assert!(rt; !admits(&array, &told));
+    assert!(rt; !trial.admits(&told));
     told.reply = off;
-    goes_on(&rt, &mut array, &told);
+    trial.goes_on(&rt, &told);
     for (at, left) in [
         (0x7FD, 0xFF),
         (0x7FE, 0x3F),
@@ -489,7 +339,7 @@ fn power_is_lost_in_a_program_beside_an_erase(rt: HostRuntime) -> Result<(), Fai
         (0xBFF, 0xA5),
         (0xC00, 0xFF),
     ] {
-        assert_eq!(rt; byte(&array, at), Some(left));
+        assert_eq!(rt; trial.byte(at), Some(left));
     }
     // The halt is kept, with the number of the cut, until power is on again.
     for op in [
@@ -498,42 +348,21 @@ fn power_is_lost_in_a_program_beside_an_erase(rt: HostRuntime) -> Result<(), Fai
         Op::Read { at: 0, len: 0 },
     ] {
         let caller = if op == Op::Poll { 1 } else { 0 };
-        has_one_answer(&rt, alloc, &array, caller, op, off)?;
+        trial.answers(&rt, caller, op, off)?;
     }
-    does(&rt, alloc, &mut array, 0, Op::PowerOn, Reply::Done)?;
-    has_one_answer(
-        &rt,
-        alloc,
-        &array,
-        1,
-        Op::IsLocked { block: 5 },
-        Reply::Bit(false),
-    )?;
-    has_one_answer(
-        &rt,
-        alloc,
-        &array,
-        1,
-        Op::EraseOpen { block: 3 },
-        Reply::Opened,
-    )?;
+    trial.does(&rt, 0, Op::PowerOn, Reply::Done)?;
+    trial.answers(&rt, 1, Op::IsLocked { block: 5 }, Reply::Bit(false))?;
+    trial.answers(&rt, 1, Op::EraseOpen { block: 3 }, Reply::Opened)?;
     Ok(())
 }
 
 #[test]
 fn a_bit_above_the_old_one_is_never_left(rt: HostRuntime) -> Result<(), Fail> {
-    let alloc = rt.alloc();
-    let mut array = bank(alloc, true, false)?;
-    does(
-        &rt,
-        alloc,
-        &mut array,
-        1,
-        program(alloc, 0, &[0x7F])?,
-        Reply::Done,
-    )?;
+    let mut trial = bank(rt.alloc(), true, false)?;
+    let op = trial.program(0, &[0x7F])?;
+    trial.does(&rt, 1, op, Reply::Done)?;
     let stuck = Reply::Halted(Halted::Stuck { lane: 3 });
-    let mut told = entry(alloc, 1, program(alloc, 0, &[0xF0])?, stuck, &[])?;
+    let mut told = trial.entry(1, trial.program(0, &[0xF0])?, stuck, &[])?;
     for (left, fits) in [
         (0x7F, true),
         (0x70, true),
@@ -541,34 +370,26 @@ fn a_bit_above_the_old_one_is_never_left(rt: HostRuntime) -> Result<(), Fail> {
         (0x60, false),
         (0xFF, false),
     ] {
-        told.bytes = make_bytes(alloc, &[left])?;
-        assert_eq!(rt; admits(&array, &told), fits, "{left}");
+        told.bytes = make_bytes(trial.alloc, &[left])?;
+        assert_eq!(rt; trial.admits(&told), fits, "{left}");
     }
-    told.bytes = make_bytes(alloc, &[0x75])?;
-    goes_on(&rt, &mut array, &told);
-    assert_eq!(rt; byte(&array, 0), Some(0x75));
+    told.bytes = make_bytes(trial.alloc, &[0x75])?;
+    trial.goes_on(&rt, &told);
+    assert_eq!(rt; trial.byte(0), Some(0x75));
     // Nothing leads back from a chip that is stuck.
-    has_one_answer(&rt, alloc, &array, 0, Op::PowerOn, stuck)?;
+    trial.answers(&rt, 0, Op::PowerOn, stuck)?;
     Ok(())
 }
 
 #[test]
 fn a_locked_block_keeps_its_bytes_in_a_halt(rt: HostRuntime) -> Result<(), Fail> {
-    let alloc = rt.alloc();
-    let mut array = bank(alloc, true, false)?;
-    does(
-        &rt,
-        alloc,
-        &mut array,
-        1,
-        Op::Lock { block: 0 },
-        Reply::Done,
-    )?;
+    let mut trial = bank(rt.alloc(), true, false)?;
+    trial.does(&rt, 1, Op::Lock { block: 0 }, Reply::Done)?;
     let stuck = Reply::Halted(Halted::Stuck { lane: 0 });
-    let mut told = entry(alloc, 1, program(alloc, 0, &[0])?, stuck, &[0x7F])?;
-    assert!(rt; !admits(&array, &told));
-    told.bytes = make_bytes(alloc, &[0xFF])?;
-    assert!(rt; admits(&array, &told));
+    let mut told = trial.entry(1, trial.program(0, &[0])?, stuck, &[0x7F])?;
+    assert!(rt; !trial.admits(&told));
+    told.bytes = make_bytes(trial.alloc, &[0xFF])?;
+    assert!(rt; trial.admits(&told));
     let copy = told.clone()?;
     assert!(rt; copy == told);
     Ok(())

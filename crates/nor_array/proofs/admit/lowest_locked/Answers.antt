@@ -1,4 +1,4 @@
-use Rattle.std.proofs.Common.{◌≡◌, ◌+◌, ◌-◌, ◌<◌, ◌&&◌, ℕ, Bool, suc, sym, arith, length, ◌∙◌}
+use Rattle.std.proofs.Common.{◌+◌, ◌-◌, ◌&&◌, ℕ, Bool, sym, arith, length, ◌∙◌}
 use Rattle.nor_array.specs.Array.{is_locked}
 use Rattle.nor_array.specs.Refusals.{touches}
 use Rattle.nor_array.proofs.Lowest.{lowest_over}

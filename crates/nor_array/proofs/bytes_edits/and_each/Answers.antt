@@ -1,4 +1,4 @@
-use Rattle.std.proofs.Common.{◌≡◌, ◌∙◌, arith}
+use Rattle.std.proofs.Common.{◌∙◌, arith}
 use Rattle.nor_array.proofs.Programmed.{and_step, and_all}
 use Rattle.nor_array.proofs.bytes_edits.and_each.Goals as goal
 

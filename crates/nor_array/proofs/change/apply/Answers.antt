@@ -1,4 +1,4 @@
-use Rattle.std.proofs.Common.{◌≡◌, ℕ, List, subst, sym}
+use Rattle.std.proofs.Common.{ℕ, List, subst, sym}
 use Rattle.nor_array.specs.Fits.{HaltFits}
 use Rattle.nor_array.proofs.Admitted.{halt_bytes_fit}
 use Rattle.nor_array.proofs.change.apply.Goals as goal

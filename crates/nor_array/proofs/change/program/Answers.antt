@@ -1,4 +1,4 @@
-use Rattle.std.proofs.Common.{◌≡◌, ◌+◌, ◌≤◌, ℕ, List, length, sym, ap, ◌∙◌, arith}
+use Rattle.std.proofs.Common.{◌≡◌, length, ap, arith}
 use Rattle.nor_array.specs.Array.{ArrayState}
 use Rattle.nor_array.specs.Consts.{state_of}
 use Rattle.nor_array.proofs.Arrays.{stored_programmed}

@@ -1,4 +1,4 @@
-use Rattle.std.proofs.Common.{rules, ◌≡◌, ◌+◌, ◌≤◌, ℕ, List, length, sym, ap, ◌∙◌, arith}
+use Rattle.std.proofs.Common.{rules, ◌≡◌, length, ap, arith}
 use Rattle.nor_cell.specs.Bits.{AreBytes}
 use Rattle.nor_array.specs.Array.{ArrayState}
 use Rattle.nor_array.specs.Consts.{state_of}

@@ -1,4 +1,4 @@
-use Rattle.std.proofs.Common.{◌≡◌, ◌+◌, ◌≤◌, ℕ, List, length, replicate, sym, ap, ◌∙◌, arith}
+use Rattle.std.proofs.Common.{◌≡◌, ℕ, length, replicate, ap, arith}
 use Rattle.nor_array.specs.Array.{ArrayState}
 use Rattle.nor_array.specs.Consts.{state_of}
 use Rattle.std.proofs.lemmas.List.{length-replicate}

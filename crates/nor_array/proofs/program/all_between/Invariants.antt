@@ -1,4 +1,4 @@
-use Rattle.std.proofs.Common.{◌≡◌, ◌<◌, ℕ, slice_index}
+use Rattle.std.proofs.Common.{◌<◌, ℕ, slice_index}
 use Rattle.nor_cell.specs.Bits.{IsBetween}
 use Rattle.nor_array.proofs.program.all_between.Given as goal
 

@@ -1,4 +1,4 @@
-use Rattle.std.proofs.Common.{◌≡◌, ◌+◌, ◌-◌, suc, sym, arith, ◌∙◌}
+use Rattle.std.proofs.Common.{sym, arith, ◌∙◌}
 use Rattle.nor_array.specs.Admits.{would_change}
 use Rattle.nor_array.proofs.Lowest.{lowest_over}
 use Rattle.nor_array.proofs.program.span_changes.Goals as goal
