@@ -1,6 +1,6 @@
 //! Bank files, and the bytes of the banks that they stand for.
 
-use nor_cell::{Device, Geometry};
+use nor_cell::{Device, Geometry, Set};
 use nor_image::{Loaded, read_image};
 use std::alloc::{AllocError, Global};
 use std::process::Abort;
@@ -9,21 +9,33 @@ use std::test::Fail;
 /// How many bytes each chip has.
 pub const CHIP_SIZE: u16 = 8192;
 
-// The bytes of a query table of set 0001 from 0x10 on, and those of its extended table: eight blocks
-// of 1 KiB on sixteen wires, with a write buffer, suspend and locks.
+// The bytes of a query table from 0x10 on, and those of its extended table of either set: eight
+// blocks of 1 KiB on sixteen wires, with a write buffer, suspend and locks.
 const HEAD: [u8; 33] = [
     0x51, 0x52, 0x59, 0x01, 0x00, 0x31, 0x00, 0x00, 0x00, 0x00, 0x00, 0x27, 0x36, 0x00, 0x00, 0x04,
     0x06, 0x0a, 0x00, 0x02, 0x02, 0x02, 0x00, 0x0d, 0x01, 0x00, 0x05, 0x00, 0x01, 0x07, 0x00, 0x04,
     0x00,
 ];
 
-const EXTENDED: [u8; 10] = [0x50, 0x52, 0x49, 0x31, 0x31, 0x22, 0x00, 0x00, 0x00, 0x01];
+const INTEL: [u8; 16] = [
+    0x50, 0x52, 0x49, 0x31, 0x31, 0x22, 0x00, 0x00, 0x00, 0x01, 0, 0, 0, 0, 0, 0,
+];
 
-/// The query table of such a chip.
-pub fn table() -> [u8; 512] {
+const AMD: [u8; 16] = [
+    0x50, 0x52, 0x49, 0x31, 0x33, 0x00, 0x02, 0x01, 0x00, 0x08, 0, 0, 0, 0, 0, 2,
+];
+
+/// The query table of such a chip of a set.
+pub fn table(set: Set) -> [u8; 512] {
     let mut table = [0; 512];
     table[0x10..0x31].copy_from_slice(&HEAD);
-    table[0x31..0x3B].copy_from_slice(&EXTENDED);
+    match set {
+        Set::Intel => table[0x31..0x41].copy_from_slice(&INTEL),
+        Set::Amd => {
+            table[0x13] = 2;
+            table[0x31..0x41].copy_from_slice(&AMD);
+        }
+    }
     table
 }
 
@@ -96,9 +108,9 @@ pub fn load_tables(
     Ok(loaded)
 }
 
-/// The same, where each lane has [`table`].
-pub fn load(rt: &impl Abort, alloc: Global, wiring: Wiring) -> Result<Loaded, Fail> {
-    load_tables(rt, alloc, wiring, &[table(); 4])
+/// The same, where each lane has the [`table`] of a set.
+pub fn load(rt: &impl Abort, alloc: Global, wiring: Wiring, set: Set) -> Result<Loaded, Fail> {
+    load_tables(rt, alloc, wiring, &[table(set); 4])
 }
 
 // The bytes of a device word of every chip in turn.

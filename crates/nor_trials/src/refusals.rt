@@ -1,10 +1,10 @@
 //! Banks that probing refuses, and how many cycles it makes until then.
 
 use crate::banks::{Wiring, load, load_tables, table};
-use nor_bus::Bus;
+use nor_bus::{Bus, SimBank};
 use nor_cell::Device::{self, X8, X16, X16Byte};
-use nor_cell::Geometry;
-use nor_image::Loaded;
+use nor_cell::{Chip, Geometry, Set};
+use nor_image::{Loaded, with_bank};
 use nor_probe::{ProbeError, probe};
 use nor_query::{QueryError, QueryKind};
 use nor_word::BusWord;
@@ -18,19 +18,15 @@ fn wiring(width: u8, lanes: u8, device: Device) -> Wiring {
     }
 }
 
-// Why a bus is refused, and the cycles that probing made.
-fn refusal_on<W: BusWord, B: Bus<W>>(bus: &mut B) -> (Option<ProbeError>, u64) {
-    let refusal = probe::<W, B>(bus).err();
-    (refusal, bus.cycles())
+// Why a bank is refused, and the cycles that probing made.
+fn refusal_on<W: BusWord, C: Chip + Drop>(bank: SimBank<W, C>) -> (Option<ProbeError>, u64) {
+    let mut bank = bank;
+    let refusal = probe::<W, SimBank<W, C>>(&mut bank).err();
+    (refusal, bank.cycles())
 }
 
 fn refusal(bank: Loaded) -> (Option<ProbeError>, u64) {
-    match bank {
-        Loaded::Intel8(mut bank) => refusal_on(&mut bank),
-        Loaded::Intel16(mut bank) => refusal_on(&mut bank),
-        Loaded::Intel32(mut bank) => refusal_on(&mut bank),
-        Loaded::Intel64(mut bank) => refusal_on(&mut bank),
-    }
+    with_bank!(bank, bank => refusal_on(bank))
 }
 
 fn differs(lane: u8, offset: u16, left: u8, right: u8) -> Option<ProbeError> {
@@ -44,7 +40,7 @@ fn differs(lane: u8, offset: u16, left: u8, right: u8) -> Option<ProbeError> {
 
 #[test]
 fn a_table_without_q_is_no_answer(rt: HostRuntime) -> Result<(), Fail> {
-    let mut without_q = table();
+    let mut without_q = table(Set::Intel);
     without_q[0x10] = 0;
     for (width, lanes, device, cycles) in [
         (1, 1, X8, 16),
@@ -65,7 +61,7 @@ fn a_table_without_q_is_no_answer(rt: HostRuntime) -> Result<(), Fail> {
 
 #[test]
 fn the_first_difference_of_the_lowest_lane_is_named(rt: HostRuntime) -> Result<(), Fail> {
-    let same = table();
+    let same = table(Set::Intel);
     let mut other_volts = same;
     other_volts[0x1B] = 0x30;
     let mut other_end = same;
@@ -96,7 +92,7 @@ fn the_first_difference_of_the_lowest_lane_is_named(rt: HostRuntime) -> Result<(
 
 #[test]
 fn a_common_table_is_refused_as_decoding_says(rt: HostRuntime) -> Result<(), Fail> {
-    let mut too_short = table();
+    let mut too_short = table(Set::Intel);
     too_short[0x2D] = 0x06;
     let bank = load_tables(&rt, rt.alloc(), wiring(2, 1, X16), &[too_short; 4])?;
     let mismatch = QueryError {
@@ -115,7 +111,7 @@ fn goes_off(bank: Loaded, after: u32) -> (Option<ProbeError>, u64) {
     match bank {
         Loaded::Intel16(mut bank) if bank.is_on() => {
             bank.arm(after, 0);
-            refusal_on(&mut bank)
+            refusal_on(bank)
         }
         _ => (None, 0),
     }
@@ -126,13 +122,13 @@ fn power_that_goes_is_told_and_the_cycle_behind_the_last_isnt_made(
     rt: HostRuntime,
 ) -> Result<(), Fail> {
     for after in [0, 4, 7, 8, 500, 501] {
-        let bank = load(&rt, rt.alloc(), wiring(2, 2, X8))?;
+        let bank = load(&rt, rt.alloc(), wiring(2, 2, X8), Set::Intel)?;
         assert_eq!(rt;
             goes_off(bank, after),
             (Some(ProbeError::Off), u64::from(after))
         );
     }
-    let bank = load(&rt, rt.alloc(), wiring(2, 2, X8))?;
+    let bank = load(&rt, rt.alloc(), wiring(2, 2, X8), Set::Intel)?;
     assert_eq!(rt; goes_off(bank, 502), (None, 502));
     Ok(())
 }

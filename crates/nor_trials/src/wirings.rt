@@ -2,10 +2,10 @@
 
 use crate::banks::{Wiring, first_bytes, load};
 use nor_bank::read_range;
-use nor_bus::Bus;
+use nor_bus::{Bus, SimBank};
 use nor_cell::Device::{self, X8, X16, X16Byte};
-use nor_cell::Geometry;
-use nor_image::Loaded;
+use nor_cell::{Chip, Geometry, Set};
+use nor_image::with_bank;
 use nor_probe::probe;
 use nor_word::BusWord;
 use std::alloc::Global;
@@ -67,28 +67,26 @@ fn reads<W: BusWord, B: Bus<W>>(
     Ok(())
 }
 
-fn tries<W: BusWord, B: Bus<W>>(
+fn tries<W: BusWord, C: Chip + Drop>(
     rt: &impl Abort,
     alloc: Global,
-    bus: &mut B,
+    bank: SimBank<W, C>,
     geometry: Geometry,
     cycles: u64,
     words: u64,
 ) -> Result<(), Fail> {
-    finds::<W, B>(rt, bus, geometry, cycles)?;
-    reads::<W, B>(rt, alloc, bus, geometry, words)
+    let mut bank = bank;
+    finds::<W, SimBank<W, C>>(rt, &mut bank, geometry, cycles)?;
+    reads::<W, SimBank<W, C>>(rt, alloc, &mut bank, geometry, words)
 }
 
 #[test]
 fn each_wiring_is_found_and_read(rt: HostRuntime) -> Result<(), Fail> {
-    for (width, lanes, device, cycles, words) in WIRINGS {
-        let geometry = Geometry { lanes, device };
-        let alloc = rt.alloc();
-        match load(&rt, alloc, Wiring { width, geometry })? {
-            Loaded::Intel8(mut bank) => tries(&rt, alloc, &mut bank, geometry, cycles, words)?,
-            Loaded::Intel16(mut bank) => tries(&rt, alloc, &mut bank, geometry, cycles, words)?,
-            Loaded::Intel32(mut bank) => tries(&rt, alloc, &mut bank, geometry, cycles, words)?,
-            Loaded::Intel64(mut bank) => tries(&rt, alloc, &mut bank, geometry, cycles, words)?,
+    for set in [Set::Intel, Set::Amd] {
+        for (width, lanes, device, cycles, words) in WIRINGS {
+            let geometry = Geometry { lanes, device };
+            let loaded = load(&rt, rt.alloc(), Wiring { width, geometry }, set)?;
+            with_bank!(loaded, bank => tries(&rt, rt.alloc(), bank, geometry, cycles, words)?);
         }
     }
     Ok(())
