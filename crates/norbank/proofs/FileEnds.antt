@@ -1,10 +1,10 @@
 -- How a task ends, by the file and what the shelf tells of it.
-use Rattle.std.proofs.Common.{◌≡◌, ◌≢◌, ◌<◌, ◌≤◌, ◌+◌, ◌^◌, ◌∙◌, ◌⊎◌, inl, inr, ℕ, zero, suc, List, [], ◌∷◌, ◌++◌, length, refl, sym, ap, subst, arith, Option, Some, None, Bool, true, false, nat_lt, if◌then◌else◌, IsSomeAnd}
+use Rattle.std.proofs.Common.{◌≡◌, ◌≢◌, ◌<◌, ◌+◌, ◌^◌, ◌∙◌, ◌⊎◌, inl, inr, ℕ, zero, suc, List, [], ◌∷◌, ◌++◌, length, refl, sym, ap, subst, arith, Option, Some, None, IsSomeAnd}
 use Rattle.std.proofs.lemmas.Bool.{cases_eq}
 use Rattle.nor_cell.specs.Chip.{ChipState}
 use Rattle.nor_bus.specs.Bus.{chip_at}
 use Rattle.nor_bus.proofs.Words.{same_chips}
-use Rattle.nor_image.specs.Image.{image_refusal, device_of, width_of, lanes_of_file, chip_of_lane, IsImageOf, IsCause}
+use Rattle.nor_image.specs.Image.{image_refusal, device_of, lanes_of_file, chip_of_lane, IsImageOf, IsCause}
 use Rattle.nor_image.specs.declared.error.ImageError.{ImageError}
 use Rattle.nor_image.specs.declared.error.ImageError.TheVariants.{BadMagic, BadHeader, Truncated, Trailing, SizeDiffers, NoMemory}
 use Rattle.nor_io.specs.Files.{FileMap, HasFile, IsAbsent, IsTooLarge}
@@ -62,8 +62,11 @@ bank_ends : (task : Task) (file : List ℕ) (width : ℕ) (chips : List ChipStat
     → EndsIn (IsBankEnding task width (device_of file) chips) taken status → FileSays task file taken status
 bank_ends task file width chips taken status image so = inl (record {
   ending = so.ending;
-  is = inr (image.well_formed, subst (λ (w : ℕ). IsBankEnding task w (device_of file) (chips_of_file file) so.ending) (sym image.bus)
-      (subst (λ (cs : List ChipState). IsBankEnding task width (device_of file) cs so.ending) (chips_are file width chips image) so.is));
+  is = inr (
+    image.well_formed,
+    subst (λ (w : ℕ). IsBankEnding task w (device_of file) (chips_of_file file) so.ending) (sym image.bus)
+        (subst (λ (cs : List ChipState). IsBankEnding task width (device_of file) cs so.ending) (chips_are file width chips image) so.is),
+  );
   says = so.says;
 })
 

@@ -13,15 +13,14 @@ use Rattle.nor_probe.specs.Tables.{table_read, first_difference}
 use Rattle.nor_probe.specs.declared.error.ProbeError.{ProbeError}
 use Rattle.nor_probe.specs.declared.error.ProbeError.TheVariants.{Query}
 use Rattle.nor_probe.specs.declared.probing.Found.{Found}
-use Rattle.nor_show.specs.Lines.{shown_lines}
 use Rattle.nor_image.specs.Image.{image_refusal, device_of, width_of}
 use Rattle.nor_image.specs.declared.error.ImageError.{ImageError}
 use Rattle.nor_image.specs.declared.error.ImageError.TheVariants.{BadMagic, BadHeader, Truncated, Trailing, SizeDiffers, NoMemory}
 use Rattle.nor_io.specs.Files.{FileMap, Rose, Appends}
 use Rattle.norbank.specs.Answering.{IsWithin, CanAnswer, IsDone}
-use Rattle.norbank.specs.Endings.{Ending, ends, refused_ending, unfound_ending, range_ending, show_ending, task_ending, chips_of_file, IsBankEnding, IsFileEnding, IsNamedEnding}
+use Rattle.norbank.specs.Endings.{Ending, ends, refused_ending, unfound_ending, range_ending, task_ending, chips_of_file, IsBankEnding, IsFileEnding, IsNamedEnding}
 use Rattle.norbank.specs.Open.{IsAccepted, PrintsImage, ShowsImage}
-use Rattle.norbank.specs.Says.{Taken, Says, SaysOrLacks, EndsIn, Lacks, BankSays, FileSays, IsFound, IsToldEnding, TaskEnds}
+use Rattle.norbank.specs.Says.{Taken, Says, SaysOrLacks, EndsIn, BankSays, FileSays, IsFound, TaskEnds}
 use Rattle.norbank.specs.Text.{hex_line, out_of_range, too_large, no_memory, absent, read_fault}
 use Rattle.norbank.specs.declared.words.Task.{Task}
 use Rattle.norbank.specs.declared.words.Task.TheVariants.{Read, Show}
@@ -124,15 +123,16 @@ bank_code task file e formed (inl refused) =
     (low.fault, λ x. absurd (low.done x))
 bank_code task file e formed (inr found) =
     let codes = task_code task (width_of file) (device_of file) (chips_of_file file) found.0 in
-    let same = ap (λ (y : Ending). y.code) found.2 in
-    (λ x. codes.0 (sym same ∙ x),
-    λ x. record {
-      accepted = record { formed = formed; accepted = accepted_of (width_of file) (chips_of_file file) found.0 found.1 };
-      within = codes.1 (sym same ∙ x);
-      found = found.0;
-      is = found.1;
-      so = found.2;
-    })
+    let same = ap (λ (y : Ending). y.code) found.2 in (
+      λ x. codes.0 (sym same ∙ x),
+      λ x. record {
+        accepted = record { formed = formed; accepted = accepted_of (width_of file) (chips_of_file file) found.0 found.1 };
+        within = codes.1 (sym same ∙ x);
+        found = found.0;
+        is = found.1;
+        so = found.2;
+      },
+    )
 
 file_code : (task : Task) (file : List ℕ) (e : Ending) → IsFileEnding task file e → (e.code ≡ 7 → ⊥) × (e.code ≡ 0 → DoneOn task file e)
 file_code task file e (inl refused) =

@@ -62,12 +62,7 @@ fn print_range<W: BusWord, B: Bus<W>, K: Sink>(
 }
 
 // Puts a line whose end is made, where memory suffices.
-fn say_made<K: Sink>(
-    code: u8,
-    head: &[u8],
-    tail: Result<String, AllocError>,
-    out: &mut K,
-) -> Status
+fn say_made<K: Sink>(code: u8, head: &[u8], tail: Result<String, AllocError>, out: &mut K) -> Status
     ensures says { MatchResult tail
         (λ text. Says (ends code (line_of head.now (string_bytes text))) (took (K.taken out.old) (K.taken out.new) (K.faults out.old) (K.faults out.new)) result.code)
         (λ _. Says (ends 9 no_memory) (took (K.taken out.old) (K.taken out.new) (K.faults out.old) (K.faults out.new)) result.code) }

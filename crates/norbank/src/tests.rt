@@ -39,12 +39,7 @@ fn run(
 // Words, the status that they end with, and what they print.
 type Case<'a> = (&'a [&'a str], u8, &'a [u8]);
 
-fn expect(
-    rt: &impl Abort,
-    alloc: Global,
-    file: &[u8],
-    cases: &[Case],
-) -> Result<(), AllocError> {
+fn expect(rt: &impl Abort, alloc: Global, file: &[u8], cases: &[Case]) -> Result<(), AllocError> {
     for (texts, code, printed) in cases {
         let (status, text) = run(alloc, texts, file, &[], &[])?;
         assert_eq!(rt; status, *code);

@@ -1,6 +1,4 @@
 use Rattle.std.proofs.Common.{◌≡◌, Err}
-use Rattle.nor_cell.specs.Resting.{IsResting}
-use Rattle.nor_bus.specs.Driven.{AllLanes}
 use Rattle.nor_probe.specs.declared.error.ProbeError.TheVariants.{Off as LostPower}
 use Rattle.norbank.proofs.BankBytes.{same_after}
 use Rattle.norbank.proofs.answering.found_on.Goals as goal

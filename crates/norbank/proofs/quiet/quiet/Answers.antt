@@ -1,4 +1,4 @@
-use Rattle.std.proofs.Common.{◌≡◌, ◌∙◌, ℕ, Option, Some, subst, sym}
+use Rattle.std.proofs.Common.{◌≡◌, ◌∙◌, ℕ, Option, subst, sym}
 use Rattle.nor_io.specs.Files.{FileMap}
 use Rattle.norbank.specs.Says.{TaskEnds, took}
 use Rattle.norbank.specs.Words.{word_at}
