@@ -1,0 +1,15 @@
+//! Scripts and reports.
+#![tactic(auto)]
+
+mod command;
+mod error;
+mod field;
+mod line;
+mod number;
+mod script;
+mod verb;
+
+pub use error::{LineKind, ScriptError};
+pub use line::{Line, Word};
+pub use number::parse_number;
+pub use script::{MAX_LINES, Script, parse_script};
