@@ -1,3 +1,5 @@
 pub mod Grammar
 pub mod Numbers
 pub mod Script
+pub mod Puts
+pub mod Report
