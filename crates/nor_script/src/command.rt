@@ -199,7 +199,11 @@ pub fn read_line(
 {
     checked(is_printable(line), LineKind::Bytes, n)?;
     let head = head_of(n, line)?;
-    checked(count_fields(line) == head.verb.field_count(), LineKind::Count, n)?;
+    checked(
+        count_fields(line) == head.verb.field_count(),
+        LineKind::Count,
+        n,
+    )?;
     let word = word_of(alloc, head.verb, n, line)?;
     checked(head.verb.may_stand(race, has_callers), LineKind::NotHere, n)?;
     Ok(Line {

@@ -50,4 +50,3 @@ pub fn parse_number(text: &[u8]) -> Option<u32>
         _ => digits(10, 10, text),
     }
 }
-

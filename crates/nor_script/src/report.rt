@@ -171,11 +171,7 @@ fn put_count<K: Sink>(entries: u64, out: &mut K) -> Result<(), SinkError>
 /// there were, and then the number of entries.
 ///
 /// `Fault` and `NoMemory` come only from the sink. A first part of the text was then put.
-pub fn put_totals<K: Sink>(
-    out: &mut K,
-    lanes: &[(u32, u32)],
-    entries: u64,
-) -> Result<(), SinkError>
+pub fn put_totals<K: Sink>(out: &mut K, lanes: &[(u32, u32)], entries: u64) -> Result<(), SinkError>
     ensures puts { PutsText (totals_text lanes.now entries) (record { before = K.taken out.old; after = K.taken out.new; faults_before = K.faults out.old; faults_after = K.faults out.new }) result }
     ensures later { K.faults out.old ≤ K.faults out.new }
 {
