@@ -1,8 +1,8 @@
 -- Reading a script line by line.
-use Rattle.std.proofs.Common.{◌≡◌, ◌+◌, ◌<◌, ◌≤◌, ◌==◌, ◌∙◌, ◌⊎◌, inl, inr, ℕ, zero, suc, List, [], ◌∷◌, ◌++◌, length, drop, ◌-◌, Bool, true, false, nat_lt, if◌then◌else◌, Result, Ok, Err, refl, sym, ap, subst, arith, append_assoc, append-nil}
+use Rattle.std.proofs.Common.{◌≡◌, ◌+◌, ◌<◌, ◌≤◌, ◌==◌, ◌∙◌, inl, inr, ℕ, zero, suc, List, [], ◌∷◌, ◌++◌, length, drop, ◌-◌, Bool, true, false, nat_lt, if◌then◌else◌, Result, Ok, Err, refl, sym, ap, subst, arith, append_assoc, append-nil}
 use Rattle.std.specs.Prelude.{◌||◌}
 use Rattle.std.proofs.lemmas.List.{length-append, length-drop}
-use Rattle.std.specs.List.{slice_split, before_first, after_first}
+use Rattle.std.specs.List.{before_first, after_first}
 use Rattle.nor_script.specs.Grammar.{line_of}
 use Rattle.nor_script.specs.Script.{lines_of, is_skipped, has_caller, before_rest, with_line, script_from, Reads}
 use Rattle.nor_script.specs.declared.line.Line.{Line}

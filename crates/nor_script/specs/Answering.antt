@@ -11,8 +11,8 @@ use Rattle.nor_script.specs.declared.line.Word.TheVariants.{Call, Erase}
 
 -- the entry is of this call by this caller
 pub record IsOf (caller : ℕ) (op : Op) (e : Entry) : Type 0 where
-  pub caller : e.caller ≡ caller
-  pub op : e.op ≡ op
+  pub called_by : e.caller ≡ caller
+  pub calls : e.op ≡ op
 
 -- an erase that wasn't opened
 pub record NotOpened (caller block : ℕ) (e : Entry) : Type 0 where

@@ -1,5 +1,5 @@
-use Rattle.std.proofs.Common.{◌≡◌, ◌+◌, ◌-◌, ◌==◌, ◌∙◌, ℕ, suc, List, length, take, drop, ap, sym, subst, arith}
-use Rattle.nor_script.specs.Grammar.{fields, field_of}
+use Rattle.std.proofs.Common.{◌≡◌, ◌+◌, ◌-◌, ◌==◌, ◌∙◌, ℕ, suc, List, take, drop, ap, sym, arith}
+use Rattle.nor_script.specs.Grammar.{field_of}
 use Rattle.nor_script.proofs.Fields.{first_part, next_part}
 use Rattle.nor_script.proofs.field.field.Goals as goal
 

@@ -1,4 +1,4 @@
-use Rattle.std.proofs.Common.{rules, List, ℕ, Err, Ok, subst, ◌∙◌, ◌++◌}
+use Rattle.std.proofs.Common.{rules, List, ℕ, Err, Ok, subst, ◌∙◌}
 use Rattle.nor_script.specs.Report.{call_front, op_data}
 use Rattle.nor_script.specs.Puts.{PutsText}
 use Rattle.nor_script.proofs.Putting.{taken, puts_then, puts_stop}

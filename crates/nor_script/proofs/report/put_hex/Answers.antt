@@ -1,4 +1,4 @@
-use Rattle.std.proofs.Common.{rules, ap, sym, ◌∙◌, ◌≡◌, ◌++◌}
+use Rattle.std.proofs.Common.{rules, ap, sym, ◌∙◌}
 use Rattle.hex.specs.Hex.{encode_lower}
 use Rattle.nor_script.proofs.Putting.{more_put, stop_put, all_put, encode-nil, pieces_of, none_left}
 use Rattle.nor_script.proofs.report.put_hex.Goals as goal

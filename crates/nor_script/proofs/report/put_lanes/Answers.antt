@@ -1,5 +1,5 @@
 use Rattle.std.proofs.Common.{rules, drop, ◌+◌}
-use Rattle.nor_script.specs.Report.{lane_line, lane_lines}
+use Rattle.nor_script.specs.Report.{lane_lines}
 use Rattle.nor_script.proofs.Putting.{more_put, stop_put, next_lane}
 use Rattle.nor_script.proofs.report.put_lanes.Goals as goal
 

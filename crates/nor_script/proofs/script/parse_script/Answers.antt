@@ -1,4 +1,4 @@
-use Rattle.std.proofs.Common.{rules, Result, Err, Ok, ◌≡◌, ◌+◌, ◌==◌, ◌∙◌, ℕ, List, take, drop, ap, sym, arith}
+use Rattle.std.proofs.Common.{rules, ◌≡◌, ◌+◌, ◌==◌, ◌∙◌, ℕ, take, drop, ap, sym}
 use Rattle.std.specs.List.{before_first, after_first}
 use Rattle.nor_script.specs.Grammar.{line_of}
 use Rattle.nor_script.specs.Script.{script_of}

@@ -1,4 +1,4 @@
-use Rattle.std.proofs.Common.{ℕ, arith}
+use Rattle.std.proofs.Common.{arith}
 use Rattle.std.proofs.Math.ListN.{drop_of_length-le}
 use Rattle.nor_script.proofs.Putting.{all_digits}
 use Rattle.nor_script.proofs.text.write_hex.Goals as goal
