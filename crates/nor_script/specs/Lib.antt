@@ -1,5 +1,6 @@
 pub mod Answering
 pub mod Grammar
+pub mod Laws
 pub mod Numbers
 pub mod Script
 pub mod Puts

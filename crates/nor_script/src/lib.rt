@@ -31,6 +31,7 @@
 mod command;
 mod error;
 mod field;
+mod laws;
 mod line;
 mod number;
 mod report;
@@ -41,6 +42,7 @@ mod text;
 mod verb;
 
 pub use error::{LineKind, ScriptError};
+pub use laws::scripts_are_answered_line_by_line;
 pub use line::{Line, Word};
 pub use number::parse_number;
 pub use report::{put_entry, put_totals};

@@ -54,9 +54,9 @@ fn with_caller(has_callers: bool, line: &Line) -> bool
 
 /// The script that a text of at most 2^30 bytes says, to be run by one thread, or to be raced.
 ///
-/// The first bad line is the answer, with the first check of [`LineKind`] that it fails; its caller
-/// is looked at behind the first field. The 65,537th command line is `TooManyLines`, unread.
-/// The text is gone through once, and each line's data are kept once.
+/// The first bad line is the answer, with the first check that it fails: those of [`LineKind`] in
+/// their order, and behind the first field the caller. The 65,537th command line is `TooManyLines`,
+/// whatever it says. The work is linear in the text.
 pub fn parse_script(alloc: Global, text: &[u8], race: bool) -> Result<Script, ScriptError>
     requires { length text.now ≤ 2 ^ 30 }
     ensures { Reads (script_of race text.now) result }
