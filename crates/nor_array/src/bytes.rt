@@ -31,6 +31,20 @@ pub fn make_bytes(alloc: Global, from: &[u8]) -> Result<Bytes, NoMemory>
 }
 
 impl Bytes {
+    /// These bytes, without a copy.
+    pub fn from_vec(bytes: Vec<u8>) -> Bytes
+        ensures { result ≡ bytes.items }
+    {
+        Bytes { bytes }
+    }
+
+    /// The bytes as a `Vec`, without a copy.
+    pub fn into_vec(self) -> Vec<u8>
+        ensures { result.items ≡ self }
+    {
+        self.bytes
+    }
+
     /// The bytes.
     pub fn as_slice(&self) -> &[u8]
         ensures { result.now ≡ self.now }

@@ -1,7 +1,7 @@
 //! What an array admits and what it becomes: each refusal, each change and each choice, right and
 //! wrong by one.
 use crate::{
-    Consts, Entry, Halted, Op, PlainArray, Reply, admits, apply, bytes_of, make_bytes, plain,
+    Bytes, Consts, Entry, Halted, Op, PlainArray, Reply, admits, apply, bytes_of, make_bytes, plain,
 };
 use nor_cell::{NoMemory, Span};
 use nor_region::{Region, block_map};
@@ -392,5 +392,14 @@ fn a_locked_block_keeps_its_bytes_in_a_halt(rt: HostRuntime) -> Result<(), Fail>
     assert!(rt; trial.admits(&told));
     let copy = told.clone()?;
     assert!(rt; copy == told);
+    Ok(())
+}
+
+#[test]
+fn bytes_are_those_of_a_vec_and_are_given_back(rt: HostRuntime) -> Result<(), Fail> {
+    let bytes = Bytes::from_vec(vec![in rt.alloc(); 7, 0, 255]?);
+    assert_eq!(rt; bytes.as_slice(), [7, 0, 255].as_slice());
+    assert!(rt; bytes == make_bytes(rt.alloc(), &[7, 0, 255])?);
+    assert_eq!(rt; bytes.into_vec().as_slice(), [7, 0, 255].as_slice());
     Ok(())
 }

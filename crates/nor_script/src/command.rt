@@ -99,7 +99,7 @@ fn decoded(alloc: Global, text: &[u8]) -> Result<Option<Bytes>, NoMemory>
     ensures { IfOk result (λ bytes. bytes ≡ decoded (decode_of text.now)) }
 {
     match hex::decode(alloc, text) {
-        Ok(bytes) => Ok(Some(make_bytes(alloc, &bytes)?)),
+        Ok(bytes) => Ok(Some(Bytes::from_vec(bytes))),
         Err(FromHexError::OutOfMemory) => Err(AllocError),
         Err(_) => Ok(None),
     }
