@@ -60,7 +60,8 @@ working_if false held false true l h = cc
 working_if false true false false l h = cc
 working_if false false false false l h = cc
 
-working_runs : (working held : Bool) (flags : Flags) → seen working held flags ≡ Working → working ≡ true
+-- a chip that is told to work runs a job
+pub working_runs : (working held : Bool) (flags : Flags) → seen working held flags ≡ Working → working ≡ true
 working_runs working held flags h = working_if working held flags.erase flags.program flags.locked h
 
 -- a read of a chip that shows its status tells what the status says

@@ -1,2 +1,4 @@
+pub mod Losing
+pub mod Reads
 pub mod Register
 pub mod Told
