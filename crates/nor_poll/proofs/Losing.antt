@@ -1,9 +1,9 @@
 -- What is left of a chip where a call was given up.
-use Rattle.std.proofs.Common.{◌≡◌, ◌+◌, ◌-◌, ◌⊎◌, inl, inr, ℕ, refl, sym, ap, subst, ◌∙◌, true, false, List, length, slice_index, unwrap_or}
+use Rattle.std.proofs.Common.{◌≡◌, ◌+◌, ◌-◌, ◌<◌, inl, inr, ℕ, refl, sym, ap, subst, ◌∙◌, arith, true, false, Option, Some, None, is_some, bit_and, List, length, slice_index, unwrap_or}
 use Rattle.nor_cell.specs.Bits.{IsBetween}
 use Rattle.nor_cell.specs.Chip.{ChipState, Flags, Mode, Step, Job, Idle}
 use Rattle.nor_cell.specs.Look.{break_of, Programmed}
-use Rattle.nor_cell.specs.Power.{Cuts, is_erasing_at, programs_at}
+use Rattle.nor_cell.specs.Power.{is_erasing_at, programs_at}
 use Rattle.nor_poll.specs.Losing.{Darkens, IsUnmoved, TornBy, Loses}
 use Rattle.nor_poll.proofs.Between.{kept_between, byte_between}
 
@@ -24,6 +24,19 @@ torn_stored d weak p bytes old new h = record {
   above = h.above;
   inside = λ q low high. byte_between d (unwrap_or (break_of d weak p bytes old) (p + length bytes)) q _ _ _ (h.inside q low high);
 }
+
+stop_of : (o : Option ℕ) (end : ℕ) → is_some o ≡ false → unwrap_or o end ≡ end
+stop_of None end whole = refl
+stop_of (Some w) end whole = cc
+
+-- a program that doesn't break off, of bytes with no bit that the cells lack, leaves these bytes
+pub holds_stored : (d : ℕ) (weak : List ℕ) (p : ℕ) (bytes old new : List ℕ) → is_some (break_of d weak p bytes old) ≡ false → Programmed d weak p bytes old new
+    → ((i : ℕ) → i < length bytes → bit_and (slice_index old (p + i)) (slice_index bytes i) ≡ slice_index bytes i) → (i : ℕ) → i < length bytes → slice_index new (p + i) ≡ slice_index bytes i
+holds_stored d weak p bytes old new whole h clears i below =
+    let stop : unwrap_or (break_of d weak p bytes old) (p + length bytes) ≡ p + length bytes = stop_of (break_of d weak p bytes old) (p + length bytes) whole in
+    let back : p + i - p ≡ i = omega arith in
+    (h.inside (p + i) (omega arith) (omega arith)).stored (omega (arith, stop, below))
+    ∙ (ap (λ (j : ℕ). bit_and (slice_index old (p + i)) (slice_index bytes j)) back ∙ clears i below)
 
 -- some bytes were torn, and then nothing has changed outside a block under erase
 pub loses_torn : (p : ℕ) (bytes cells : List ℕ) (s t : ChipState) → TornBy p bytes s.cells cells → IsUnmoved s t → length t.cells ≡ length cells

@@ -1,7 +1,7 @@
 -- Any number of status reads.
-use Rattle.std.proofs.Common.{◌≡◌, ◌≢◌, ◌+◌, ◌<◌, ◌⊎◌, inl, inr, ℕ, refl, sym, ap, subst, ◌∙◌, Bool, true, false, add-one}
+use Rattle.std.proofs.Common.{◌≡◌, ◌≢◌, ◌+◌, inl, inr, ℕ, refl, sym, ap, subst, ◌∙◌, Bool, true, false, add-one}
 use Rattle.nor_cell.specs.Chip.{ChipState, Job, Idle, Program, Erase, Pausing, Flags, runs, is_held}
-use Rattle.nor_bus.specs.Bus.{BusState, lane, lanes_of, chip_at}
+use Rattle.nor_bus.specs.Bus.{BusState, chip_at}
 use Rattle.nor_bus.specs.Cycles.{BusFails}
 use Rattle.nor_bus.specs.Driven.{EachLane}
 use Rattle.nor_poll.specs.Told.{IsLooked, ShowsStatus, Told, seen}

@@ -2,3 +2,4 @@ pub mod Losing
 pub mod Reads
 pub mod Register
 pub mod Told
+pub mod Words

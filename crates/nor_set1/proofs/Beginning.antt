@@ -1,15 +1,16 @@
 -- The cycles that begin a program of one word.
-use Rattle.std.proofs.Common.{◌≡◌, ℕ, List, refl, ap, ◌∙◌, subst, sym, Bool, true, false, if◌then◌else◌}
+use Rattle.std.proofs.Common.{◌≡◌, ℕ, List, refl, ap, ◌∙◌, Bool, true, false, if◌then◌else◌}
 use Rattle.nor_cell.specs.Bits.{unit_bytes}
 use Rattle.nor_cell.specs.Chip.{ChipState, Array, Status, ProgramNext, place, block_of}
 use Rattle.nor_cell.specs.Intel.{flagged, misled, held_off, commanded}
 use Rattle.nor_cell.specs.Steps.{written}
 use Rattle.nor_word.specs.Word.{lane_of}
 use Rattle.nor_bus.specs.Bus.{wide}
-use Rattle.nor_poll.specs.Losing.{Darkens, Loses}
+use Rattle.nor_poll.specs.Losing.{Darkens}
 use Rattle.nor_poll.proofs.Losing.{dark_idle}
+use Rattle.nor_poll.specs.Words.{word_reads}
 use Rattle.nor_set1.specs.Rest.{Commands, no_flags}
-use Rattle.nor_set1.specs.Word.{TakesProgram, BeginsWord, LosesWord, programming, word_reads}
+use Rattle.nor_set1.specs.Word.{TakesProgram, BeginsWord, LosesWord, programming}
 use Rattle.nor_set1.proofs.Commanding.{written_idle, cleared, rests_cleared, dark_rest, dark_cleared}
 
 -- a program was announced

@@ -1,7 +1,7 @@
 -- Codes to a chip of set 0001 that runs no job.
 use Rattle.std.proofs.Common.{◌≡◌, ◌<◌, ◌%◌, ◌==◌, ℕ, ap, subst, sym, refl, arith, ◌∙◌, if◌then◌else◌, Result, Ok, Err, OnErr, List}
 use Rattle.nor_cell.specs.Bits.{unit_len}
-use Rattle.nor_cell.specs.Chip.{ChipState, Flags, Mode, Array, Job, Idle, Step, Rest, runs}
+use Rattle.nor_cell.specs.Chip.{ChipState, Flags, Array, Job, Idle, Step, Rest, runs}
 use Rattle.nor_cell.specs.Look.{suspended}
 use Rattle.nor_cell.specs.Intel.{steps, commanded}
 use Rattle.nor_cell.specs.Steps.{written, writes_of}
@@ -12,7 +12,7 @@ use Rattle.nor_cell.specs.declared.device.Device.TheVariants.{X8, X16, X16Byte}
 use Rattle.nor_bus.specs.Driven.{spread, TakesCode}
 use Rattle.nor_poll.specs.Losing.{Darkens, Loses}
 use Rattle.nor_poll.proofs.Losing.{dark_idle}
-use Rattle.nor_set1.specs.Rest.{AtRest, Commands, Settles, LosesNone, settled, no_flags}
+use Rattle.nor_set1.specs.Rest.{AtRest, Commands, Settles, settled, no_flags}
 
 -- a fact after an error
 pub on_err : {T E : Type 0} (r : Result T E) (P : Type 0) → P → OnErr r P

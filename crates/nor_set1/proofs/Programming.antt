@@ -1,23 +1,20 @@
 -- A chip that programs, read by read.
-use Rattle.std.proofs.Common.{◌≡◌, ◌+◌, ◌<◌, ◌≤◌, ◌⊎◌, inl, inr, ℕ, zero, suc, refl, sym, subst, ap, arith, ◌∙◌, Bool, true, false, List, [], length, slice_index, is_some, if◌then◌else◌}
+use Rattle.std.proofs.Common.{◌≡◌, ◌+◌, ◌⊎◌, inl, inr, ℕ, zero, suc, refl, sym, subst, ap, arith, ◌∙◌, Bool, true, false, List, [], length, slice_index, if◌then◌else◌}
 use Rattle.nor_cell.specs.Bits.{unit_len}
-use Rattle.nor_cell.specs.Chip.{ChipState, Status, Rest, Job, Idle, Program, runs, is_held}
-use Rattle.nor_cell.specs.Look.{look_at, break_of, Programmed}
+use Rattle.nor_cell.specs.Chip.{ChipState, Status, Rest, Idle, Program, runs, is_held}
+use Rattle.nor_cell.specs.Look.{look_at}
 use Rattle.nor_cell.specs.Power.{Cuts, is_erasing_at, erases_at, holds_at}
 use Rattle.nor_cell.specs.declared.device.Set.TheVariants.{Intel}
 use Rattle.nor_poll.specs.Losing.{Darkens, IsUnmoved, TornBy, Tears, Loses}
 use Rattle.nor_poll.specs.Reads.{AfterReads, NoReads, OneMore}
 use Rattle.nor_poll.specs.Told.{IsLooked, seen}
+use Rattle.nor_poll.specs.Words.{breaks, Stores}
 use Rattle.nor_poll.specs.declared.watch.Seen.{Seen}
 use Rattle.nor_poll.proofs.Between.{right_false, not_below, not_above, is_inside}
 use Rattle.nor_poll.proofs.Looking.{works, stays, ends_program, ends_program_cells}
 use Rattle.nor_poll.proofs.Losing.{torn_none, torn_stored, loses_torn}
 use Rattle.nor_set1.specs.Rest.{no_flags}
 use Rattle.nor_set1.specs.Word.{programming, is_broken}
-
--- the program breaks off
-abbrev pub breaks : ℕ → List ℕ → ChipState → Bool
-breaks p bytes s = is_some (break_of (unit_len s.part.device) s.part.weak p bytes s.cells)
 
 -- the chip after its program
 abbrev pub stored : Bool → List ℕ → ChipState → ChipState
@@ -31,7 +28,7 @@ pub record StillPrograms (p : ℕ) (bytes : List ℕ) (reads n : ℕ) (s t : Chi
 
 -- Its program has ended.
 pub record HasStored (p : ℕ) (bytes : List ℕ) (s t : ChipState) : Type 0 where
-  pub cells : Programmed (unit_len s.part.device) s.part.weak p bytes s.cells t.cells
+  pub cells : Stores p bytes s t.cells
   pub is : t ≡ stored (breaks p bytes s) t.cells s
 
 abbrev pub Programs : ℕ → List ℕ → ℕ → ℕ → ChipState → ChipState → Type 0
@@ -72,7 +69,7 @@ programs_more p bytes reads n s m t set (inr ended) h =
     let same : t ≡ ready = stays ready t set refl (subst (λ (x : ChipState). IsLooked x t) ended.is h) in
     let cells : m.cells ≡ t.cells = sym (ap (λ (x : ChipState). x.cells) same) in
     inr (record {
-      cells = subst (λ (x : List ℕ). Programmed (unit_len s.part.device) s.part.weak p bytes s.cells x) cells ended.cells;
+      cells = subst (λ (x : List ℕ). Stores p bytes s x) cells ended.cells;
       is = same ∙ ap (λ (x : List ℕ). stored (breaks p bytes s) x s) cells;
     })
 

@@ -1,19 +1,19 @@
 -- Polls of all lanes, one after another.
 use Rattle.std.proofs.Common.{◌≡◌, ◌≢◌, ◌+◌, ◌<◌, ◌≤◌, ◌⊎◌, inl, inr, ℕ, zero, suc, refl, sym, ap, subst, ◌∙◌, arith, true}
-use Rattle.std.proofs.lemmas.Bool.{cases_lt, cases_eq}
-use Rattle.nor_cell.specs.Chip.{ChipState, Job, Idle, runs, is_held}
+use Rattle.std.proofs.lemmas.Bool.{cases_lt}
+use Rattle.nor_cell.specs.Chip.{Job, Idle, runs, is_held}
 use Rattle.nor_cell.specs.Wiring.{is_wiring}
 use Rattle.nor_cell.specs.declared.device.Device.{Device}
 use Rattle.nor_bus.specs.Bus.{BusState, lane, lanes_of}
 use Rattle.nor_bus.specs.Cycles.{BusFails}
-use Rattle.nor_bus.specs.Driven.{Went, Lost, EachLane}
+use Rattle.nor_bus.specs.Driven.{Went, EachLane}
 use Rattle.nor_bus.proofs.Driving.{went_then, went_none}
 use Rattle.nor_poll.specs.Told.{ShowsStatus, TellsStatus, seen}
-use Rattle.nor_poll.specs.Reads.{AfterReads, NoReads, WorksAfter, DarkAfter}
+use Rattle.nor_poll.specs.Reads.{NoReads}
 use Rattle.nor_poll.specs.declared.watch.Seen.{Seen}
 use Rattle.nor_poll.specs.declared.watch.Seen.TheVariants.{Working, Ready}
 use Rattle.nor_poll.proofs.Reading.{read_more, shows_after, told_idle, told_runs, darkens}
-use Rattle.nor_set1.specs.Wait.{IsReady, EndsWaiting, SomeWorks, ReadUntilReady, ReadsStatus, DarkensReading}
+use Rattle.nor_set1.specs.Wait.{EndsWaiting, ReadUntilReady, ReadsStatus, DarkensReading}
 
 -- what a poll tells of each lane
 abbrev pub ToldLanes : (ℕ → Seen) → BusState → BusState → Type 0
@@ -58,8 +58,11 @@ polled_more n j k f old mid after h went told below working =
     record {
       went = went_then n n 1 1 (n + 1) (n + 1) old mid after (omega arith) (omega arith) h.went went;
       reads = reads_on n f old mid after count h.reads told;
-      works = λ some. (below, λ shows.
-          told_runs (lane mid k) (lane after k) (f k) (told k (moved old mid k count below) (shows_after (lane old k) n (lane mid k) (h.reads k below shows) shows)) working);
+      works = λ some. (
+        below,
+        λ shows.
+            told_runs (lane mid k) (lane after k) (f k) (told k (moved old mid k count below) (shows_after (lane old k) n (lane mid k) (h.reads k below shows) shows)) working,
+      );
     }
 
 -- ---- the last poll

@@ -3,25 +3,25 @@ use Rattle.std.proofs.Common.{◌≡◌, ◌+◌, ◌<◌, ◌≤◌, ◌⊎◌,
 use Rattle.std.proofs.lemmas.Bool.{cases_lt}
 use Rattle.std.proofs.Math.Nat.{zero-div}
 use Rattle.nor_cell.specs.Bits.{has_bit, unit_bytes, unit_len}
-use Rattle.nor_cell.specs.Chip.{ChipState, Array, Job, Idle, Step, place, runs, is_held}
-use Rattle.nor_cell.specs.Look.{Programmed}
+use Rattle.nor_cell.specs.Chip.{ChipState, Job, Idle, Step, place, runs, is_held}
 use Rattle.nor_cell.specs.declared.geometry.Geometry.{Geometry}
 use Rattle.nor_word.specs.Word.{lane_of}
 use Rattle.nor_bus.specs.Bus.{BusState, lane, lanes_of, units_of, wide}
-use Rattle.nor_bus.specs.Driven.{IsOwn, Went, AllLanes}
+use Rattle.nor_bus.specs.Driven.{Went, AllLanes}
 use Rattle.nor_bus.proofs.Driving.{went_then, lost_then, own_kept}
 use Rattle.nor_poll.specs.Told.{ShowsStatus, seen}
-use Rattle.nor_poll.specs.Reads.{AfterReads, WorksAfter}
-use Rattle.nor_poll.specs.Losing.{Tears, Loses}
+use Rattle.nor_poll.specs.Reads.{WorksAfter}
+use Rattle.nor_poll.specs.Words.{EachPart, word_reads, breaks, Stores}
+use Rattle.nor_poll.proofs.Losing.{holds_stored}
 use Rattle.nor_poll.specs.declared.lanes.Halt.{Halt}
 use Rattle.nor_poll.specs.declared.lanes.Halt.TheVariants.{Off, Stuck}
 use Rattle.nor_poll.specs.declared.watch.Seen.{Seen}
 use Rattle.nor_poll.specs.declared.watch.Seen.TheVariants.{Ready}
 use Rattle.nor_set1.specs.Rest.{AtRest, SettlesUnflagged, LosesNone, settled, no_flags}
 use Rattle.nor_set1.specs.Wait.{EndsWaiting, SomeWorks, ReadsStatus, DarkensReading, WaitHalts}
-use Rattle.nor_set1.specs.Word.{EachPart, TakesProgram, BeginsWord, WordDone, ProgramsWord, LosesWord, TearsWord, TellsBroken, EndsWithin, IsStuckBy, WordHalts, breaks_off, is_broken, programming, word_reads}
+use Rattle.nor_set1.specs.Word.{TakesProgram, BeginsWord, ProgramsWord, LosesWord, TearsWord, TellsBroken, EndsWithin, IsStuckBy, WordHalts, is_broken, programming}
 use Rattle.nor_set1.proofs.Waiting.{moved}
-use Rattle.nor_set1.proofs.Programming.{Programs, HasStored, programs_after, stored, stored_idle, still_running, tells_broken, tears, dark_programs, loses_later, breaks}
+use Rattle.nor_set1.proofs.Programming.{Programs, HasStored, programs_after, stored, stored_idle, still_running, tells_broken, tears, dark_programs, loses_later}
 
 abbrev bytes_of : ℕ → ChipState → List ℕ
 bytes_of v s = unit_bytes s.part.device v
@@ -83,8 +83,10 @@ word_done u v bits k s b m t it begins waits is settles takes =
     let whole = λ (none : bits ≡ 0). sym (tells u v s b m it (has_bit bits k) begins waits is takes) ∙ no_bit bits k none in
     let e : t ≡ settled m = settles (rest_stored p bytes s m takes.rest h) (λ none. unflagged_if p bytes s m h (whole none)) in
     let cells : t.cells ≡ m.cells = ap (λ (x : ChipState). x.cells) e in
+    let stores = subst (λ (x : List ℕ). Stores p bytes s x) (sym cells) h.cells in
     record {
-      cells = subst (λ (x : List ℕ). Programmed (unit_len s.part.device) s.part.weak p bytes s.cells x) (sym cells) h.cells;
+      cells = stores;
+      holds = λ unbroken clears. holds_stored (unit_len s.part.device) s.part.weak p bytes s.cells t.cells unbroken stores clears;
       rest = e ∙ (ap settled h.is ∙ (as_before s m.cells takes.rest ∙ ap (λ (x : List ℕ). record (settled s) { cells = x }) (sym cells)));
     }
 

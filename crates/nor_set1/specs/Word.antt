@@ -1,25 +1,18 @@
 -- Programming a word.
-use Rattle.std.specs.Prelude.{◌≡◌, ◌<◌, ◌≤◌, ◌+◌, ℕ, List, Bool, true, false, is_some}
-use Rattle.nor_cell.specs.Bits.{unit_len, unit_bytes}
+use Rattle.std.specs.Prelude.{◌≡◌, ◌<◌, ◌≤◌, ◌+◌, ℕ, List, Bool, true, false}
+use Rattle.nor_cell.specs.Bits.{unit_bytes}
 use Rattle.nor_cell.specs.Chip.{ChipState, Status, Rest, Program, has_blocks, block_of, is_locked, place}
 use Rattle.nor_cell.specs.Intel.{held_off}
-use Rattle.nor_cell.specs.Look.{break_of, Programmed}
-use Rattle.nor_cell.specs.Table.{left_at_start}
-use Rattle.nor_cell.specs.declared.device.Work.TheVariants.{Word}
 use Rattle.nor_cell.specs.declared.geometry.Geometry.{Geometry}
-use Rattle.nor_word.specs.Word.{lane_of}
-use Rattle.nor_bus.specs.Bus.{BusState, lane, lanes_of, units_of, wide}
+use Rattle.nor_bus.specs.Bus.{BusState, lane, units_of}
 use Rattle.nor_bus.specs.Driven.{IsOwn, Went, Lost}
 use Rattle.nor_poll.specs.Losing.{Tears, Loses}
+use Rattle.nor_poll.specs.Words.{EachPart, word_reads, unit_breaks, StoresUnit, OnlyClears, HoldsUnit}
 use Rattle.nor_poll.specs.declared.lanes.Halt.{Halt}
 use Rattle.nor_poll.specs.declared.lanes.Halt.TheVariants.{Off, Stuck}
 use Rattle.nor_poll.specs.declared.watch.Seen.{Seen}
 use Rattle.nor_poll.specs.declared.watch.Seen.TheVariants.{Working, Ready, Suspended, Broken}
 use Rattle.nor_set1.specs.Rest.{AtRest, settled, no_flags}
-
--- each lane went from old to new as P says of its part of a word
-abbrev pub EachPart : List ℕ → (ℕ → ChipState → ChipState → Type 0) → BusState → BusState → Type 0
-EachPart word P old new = (c : ℕ) → c < lanes_of old → P (lane_of (wide (lane old c)) word c) (lane old c) (lane new c)
 
 -- A chip that would program unit u: at rest, the unit's block not locked, and no held erase in the way.
 pub record TakesProgram (u : ℕ) (s : ChipState) : Type 0 where
@@ -27,10 +20,6 @@ pub record TakesProgram (u : ℕ) (s : ChipState) : Type 0 where
   pub blocks : has_blocks s.part.blocks ≡ true
   pub unlocked : is_locked s (block_of s u) ≡ false
   pub free : held_off s (block_of s u) ≡ false
-
--- how many reads a word shows working
-abbrev pub word_reads : ChipState → ℕ
-word_reads s = left_at_start Word s.part.pace_program s.part.table
 
 -- the chip programs these bytes from place p on
 abbrev pub programming : ℕ → List ℕ → ℕ → ChipState → ChipState
@@ -40,13 +29,11 @@ programming p bytes left s = record s { mode = Status; step = Rest; flags = no_f
 abbrev pub BeginsWord : ℕ → ℕ → ChipState → ChipState → Type 0
 BeginsWord u v s t = TakesProgram u s → t ≡ programming (place s.part u) (unit_bytes s.part.device v) (word_reads s) s
 
--- unit u is weak, and would change to v
-abbrev pub breaks_off : ℕ → ℕ → ChipState → Bool
-breaks_off u v s = is_some (break_of (unit_len s.part.device) s.part.weak (place s.part u) (unit_bytes s.part.device v) s.cells)
-
--- Unit u has become old AND v, or bits between where it broke off. All else is as before, and the array is shown.
+-- Unit u has become old AND v, which is v where v has no bit that it lacked; or bits between, where it broke off. All else
+-- is as before, and the array is shown.
 pub record WordDone (u v : ℕ) (s t : ChipState) : Type 0 where
-  pub cells : Programmed (unit_len s.part.device) s.part.weak (place s.part u) (unit_bytes s.part.device v) s.cells t.cells
+  pub cells : StoresUnit u v s t.cells
+  pub holds : unit_breaks u v s ≡ false → OnlyClears s.part u v s.cells → HoldsUnit s.part u v t.cells
   pub rest : t ≡ record (settled s) { cells = t.cells }
 
 abbrev pub ProgramsWord : ℕ → ℕ → ChipState → ChipState → Type 0
@@ -54,7 +41,7 @@ ProgramsWord u v s t = TakesProgram u s → WordDone u v s t
 
 -- a bit tells whether the chip broke off
 abbrev pub TellsBroken : ℕ → Bool → ℕ → ChipState → Type 0
-TellsBroken u bit v s = TakesProgram u s → bit ≡ breaks_off u v s
+TellsBroken u bit v s = TakesProgram u s → bit ≡ unit_breaks u v s
 
 -- the chip isn't stuck, and shows a word working for so many reads at most
 pub record EndsWithin (u most : ℕ) (s : ChipState) : Type 0 where

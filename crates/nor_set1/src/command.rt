@@ -11,7 +11,9 @@ use nor_word::BusWord;
 
 // Command codes.
 pub const SHOW_ARRAY: u8 = 0xFF;
+
 pub const CLEAR_STATUS: u8 = 0x50;
+
 pub const PROGRAM: u8 = 0x40;
 
 /// Writes the first code of a command, to chips at rest.

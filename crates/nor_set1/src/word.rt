@@ -6,7 +6,8 @@ ghost use Rattle.nor_word.specs.Word.{lane_of};
 ghost use Rattle.nor_bus.specs.Bus.{units_of, lane, lanes_of, wide};
 ghost use Rattle.nor_bus.specs.Driven.{IsOwn, Went, Lost, AllLanes};
 ghost use Rattle.nor_poll.specs.Told.{seen_at};
-ghost use Rattle.nor_set1.specs.Word.{EachPart, BeginsWord, ProgramsWord, TellsBroken, EndsWithin, LosesWord, WordHalts, is_broken};
+ghost use Rattle.nor_poll.specs.Words.{EachPart};
+ghost use Rattle.nor_set1.specs.Word.{BeginsWord, ProgramsWord, TellsBroken, EndsWithin, LosesWord, WordHalts, is_broken};
 
 use crate::command::{CLEAR_STATUS, PROGRAM, command, end_program};
 use crate::wait::wait_ready;

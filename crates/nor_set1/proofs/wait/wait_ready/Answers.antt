@@ -1,5 +1,4 @@
 use Rattle.std.proofs.Common.{arith, refl, sym, subst, ◌∙◌, ◌+◌, ◌<◌, ℕ}
-use Rattle.nor_bus.specs.Bus.{lane}
 use Rattle.nor_bus.proofs.Driving.{went_then, went_none, lost_then, few_lanes, own_kept}
 use Rattle.nor_poll.specs.Told.{seen_at}
 use Rattle.nor_set1.proofs.Waiting.{is_lane, polled_more, polled_none, some_wired, ends_waiting, until_ready, darkens_reading}

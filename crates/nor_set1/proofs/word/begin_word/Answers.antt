@@ -1,10 +1,10 @@
 use Rattle.std.proofs.Common.{arith, ◌<◌, ℕ, subst, sym, ◌∙◌}
-use Rattle.nor_word.specs.Word.{lane_of}
-use Rattle.nor_bus.specs.Bus.{lane, wide, units_of}
+use Rattle.nor_bus.specs.Bus.{lane, units_of}
 use Rattle.nor_bus.specs.Driven.{Lost}
 use Rattle.nor_bus.proofs.Driving.{went_then, lost_then}
 use Rattle.nor_poll.proofs.Reading.{darkens}
-use Rattle.nor_set1.specs.Word.{EachPart, LosesWord}
+use Rattle.nor_poll.specs.Words.{EachPart}
+use Rattle.nor_set1.specs.Word.{LosesWord}
 use Rattle.nor_set1.proofs.Commanding.{on_err}
 use Rattle.nor_set1.proofs.Beginning.{begins, dark_first, dark_second, dark_third}
 use Rattle.nor_set1.proofs.word.begin_word.Goals as goal

@@ -1,4 +1,4 @@
-use Rattle.std.proofs.Common.{arith, ◌+◌, ◌≤◌, ◌<◌, ℕ, ◌∙◌, subst}
+use Rattle.std.proofs.Common.{arith, ◌+◌, ◌≤◌}
 use Rattle.nor_word.specs.Word.{lane_of}
 use Rattle.nor_bus.specs.Bus.{lane, wide}
 use Rattle.nor_bus.proofs.Driving.{went_then, lost_then, few_lanes, own_kept}
@@ -67,7 +67,7 @@ returns-in-Err-end_program-clause-halts g c =
     let last = g.B.Bus.state c.wait_ready.new.bus in
     let new = g.B.Bus.state c.end_program.new.bus in (
       lost_then 3 3 (c.args.limit + 2) (c.args.limit + 5) old mid new (omega arith) c.in_default.ensures.went
-      (lost_then 1 c.args.limit 2 (c.args.limit + 2) mid last new (omega arith) c.in-Ok.ensures.went c.in-Err-end_program.ensures.lost),
+          (lost_then 1 c.args.limit 2 (c.args.limit + 2) mid last new (omega arith) c.in-Ok.ensures.went c.in-Err-end_program.ensures.lost),
       λ own within k below.
           let there = moved old mid k c.in_default.ensures.went.kept.count below in
           loses_ended c.args.at (lane_of (wide (lane old k)) (g.W.BusWord.bytes c.args.new) k) (lane old k) (lane mid k) (lane last k) (lane new k) (seen_at c.in-Ok.watch.lanes k)
