@@ -10,6 +10,10 @@
 #[cfg(test)]
 mod banks;
 #[cfg(test)]
+mod chips;
+#[cfg(test)]
 mod cuts;
 #[cfg(test)]
 mod wirings;
+#[cfg(test)]
+mod words;
