@@ -70,6 +70,7 @@ pub fn status_poll<W: BusWord, B: Bus<W>>(bus: &mut B, g: Geometry, at: u32) -> 
     ensures units { units_of (B.state bus.new) ≡ units_of (B.state bus.old) }
     ensures wired { IsWired W.WIDTH (B.state bus.old) }
 {
+    // A chip shows its status at every address.
     let there = at % bus.units();
     let word = read_word::<W, B>(bus, there)?;
     Ok(watch_of(word, g))

@@ -14,10 +14,9 @@ pub enum Broke {
 }
 
 /// What a poll tells of one lane.
-#[derive(Clone, Copy, Debug, PartialEq, Eq, Default)]
+#[derive(Clone, Copy, Debug, PartialEq, Eq)]
 pub enum Seen {
     Working,
-    #[default]
     Ready,
     /// No job runs, and an erase is held.
     Suspended,

@@ -1,4 +1,4 @@
-ghost use Rattle.std.specs.Prelude.{◌≡◌, ◌<◌, ◌≤◌, ◌+◌, ℕ, true, false, IsTrue, IfOk, IfErr, OnOk, OnErr};
+ghost use Rattle.std.specs.Prelude.{◌≡◌, ◌<◌, ◌≤◌, ◌+◌, ℕ, min, true, false, IsTrue, IfOk, IfErr, OnOk, OnErr};
 ghost use Rattle.nor_cell.specs.Bits.{has_bit};
 ghost use Rattle.nor_cell.specs.Intel.{bit_if};
 ghost use Rattle.nor_cell.specs.Wiring.{is_wiring};
@@ -77,7 +77,7 @@ pub fn program_word<W: BusWord, B: Bus<W>>(
     ensures past { IfOk result (λ set. (c : ℕ) → g.lanes ≤ c → has_bit set.bits c ≡ false) }
     ensures power { OnOk result ((B.state bus.new).power ≡ true) }
     ensures went { OnOk result (Went 5 (limit + 5) (B.state bus.old) (B.state bus.new)) }
-    ensures prompt { IfOk result (λ set. IsOwn W.WIDTH g (B.state bus.old) → at < units_of (B.state bus.old) → set.bits ≡ 0 → (most : ℕ) → AllLanes (EndsWithin at most) (B.state bus.old) → Went 5 (most + 5) (B.state bus.old) (B.state bus.new)) }
+    ensures prompt { IfOk result (λ set. IsOwn W.WIDTH g (B.state bus.old) → at < units_of (B.state bus.old) → (most : ℕ) → AllLanes (EndsWithin at most) (B.state bus.old) → Went 5 (most + 5 + min set.bits 1) (B.state bus.old) (B.state bus.new)) }
     ensures halts { IfErr result (WordHalts W.WIDTH g at (W.bytes new) limit (B.state bus.old) (B.state bus.new)) }
     ensures units { units_of (B.state bus.new) ≡ units_of (B.state bus.old) }
 {

@@ -1,4 +1,4 @@
-use Rattle.std.proofs.Common.{arith, ◌+◌, ◌≤◌}
+use Rattle.std.proofs.Common.{min, arith, ◌+◌, ◌≤◌}
 use Rattle.nor_word.specs.Word.{lane_of}
 use Rattle.nor_bus.specs.Bus.{lane, wide}
 use Rattle.nor_bus.proofs.Driving.{went_then, lost_then, few_lanes, own_kept}
@@ -45,20 +45,21 @@ pub returns-in-Ok-end_program-clause-went : goal.returns-in-Ok-end_program-claus
 returns-in-Ok-end_program-clause-went g c =
     let mid = g.B.Bus.state c.begin_word.new.bus in
     let new = g.B.Bus.state c.end_program.new.bus in
-    went_then 3 3 2 (c.args.limit + 2) 5 (c.args.limit + 5) (g.B.Bus.state c.args.bus.now) mid new (omega arith) (omega arith) c.in_default.ensures.went
-    (went_then 1 c.args.limit 1 2 2 (c.args.limit + 2) mid (g.B.Bus.state c.wait_ready.new.bus) new (omega arith) (omega arith) c.in-Ok.ensures.went c.in-Ok-end_program.ensures.went)
+    let last = 1 + min c.broken_lanes-broken.result.bits 1 in
+    went_then 3 3 2 (c.args.limit + last) 5 (c.args.limit + 5) (g.B.Bus.state c.args.bus.now) mid new (omega arith) (omega arith) c.in_default.ensures.went
+    (went_then 1 c.args.limit 1 last 2 (c.args.limit + last) mid (g.B.Bus.state c.wait_ready.new.bus) new (omega arith) (omega arith) c.in-Ok.ensures.went c.in-Ok-end_program.ensures.went)
 
 pub returns-in-Ok-end_program-clause-prompt : goal.returns-in-Ok-end_program-clause-prompt
-returns-in-Ok-end_program-clause-prompt g c = λ own within none most ends.
+returns-in-Ok-end_program-clause-prompt g c = λ own within most ends.
     let old = g.B.Bus.state c.args.bus.now in
     let mid = g.B.Bus.state c.begin_word.new.bus in
-    let last = g.B.Bus.state c.wait_ready.new.bus in
     let new = g.B.Bus.state c.end_program.new.bus in
+    let last = 1 + min c.broken_lanes-broken.result.bits 1 in
     let until = c.in-Ok.ensures.until (own_kept g.W.BusWord.WIDTH c.args.g old mid c.in_default.ensures.went.kept own) in
     let n = until.before in
     let few : n ≤ most = before_within c.args.at n most (g.W.BusWord.bytes c.args.new) old mid c.in_default.ensures.went.kept.count (c.in_default.ensures.begins within) ends until.until in
-    went_then 3 3 (n + 2) (n + 2) 5 (most + 5) old mid new (omega (arith, few)) (omega (arith, few)) c.in_default.ensures.went
-    (went_then (n + 1) (n + 1) 1 1 (n + 2) (n + 2) mid last new (omega arith) (omega arith) until.went (c.in-Ok-end_program.ensures.prompt none))
+    went_then 3 3 (n + 2) (n + 1 + last) 5 (most + 5 + min c.broken_lanes-broken.result.bits 1) old mid new (omega (arith, few)) (omega (arith, few)) c.in_default.ensures.went
+    (went_then (n + 1) (n + 1) 1 last (n + 2) (n + 1 + last) mid (g.B.Bus.state c.wait_ready.new.bus) new (omega arith) (omega arith) until.went c.in-Ok-end_program.ensures.went)
 
 pub returns-in-Err-end_program-clause-halts : goal.returns-in-Err-end_program-clause-halts
 returns-in-Err-end_program-clause-halts g c =
