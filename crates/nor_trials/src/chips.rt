@@ -1,4 +1,4 @@
-//! Banks of chips of one block, made of their cells, with nothing locked.
+//! Wired of chips of one block, made of their cells, with nothing locked.
 ghost use Rattle.std.specs.Prelude.{◌≡◌, ◌<◌, ◌≤◌, IsTrue, IfOk, length};
 ghost use Rattle.std.specs.List.{All};
 ghost use Rattle.nor_cell.specs.Ranges.{are_blocks, is_ascending_below, begin_units};
@@ -100,6 +100,7 @@ fn make_chips(rt: &impl Abort, alloc: Global, setup: Setup) -> Result<Vec<Intel>
 }
 
 /// A bank of such chips, just powered on.
+#[tactic(auto, using(crate::proofs::Wired::are_bank))]
 pub fn make_bank<W: BusWord>(
     rt: &impl Abort,
     alloc: Global,
