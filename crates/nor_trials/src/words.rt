@@ -115,20 +115,17 @@ fn a_word_is_programmed_on_each_wiring(rt: HostRuntime) -> Result<(), Fail> {
 }
 
 // Power goes after so many cycles of a program; then it comes back, and the unit reads this.
-fn goes_off<W: BusWord, B: Bus<W>>(
-    rt: &impl Abort,
-    bus: &mut B,
-    g: Geometry,
-    after: u32,
-    word: W,
-)
+fn goes_off<W: BusWord, B: Bus<W>>(rt: &impl Abort, bus: &mut B, g: Geometry, after: u32, word: W)
     requires { IsTrue (is_wiring W.WIDTH g.lanes g.device) }
 {
     let failed = bus.failed();
     assert!(rt; bus.is_on());
     bus.arm(after, 0x0F);
     let new = counting::<W>(0x30);
-    assert_eq!(rt; program_word::<W, B>(bus, g, after, new, LIMIT), Err(Halt::Off));
+    assert_eq!(rt;
+        program_word::<W, B>(bus, g, after, new, LIMIT),
+        Err(Halt::Off)
+    );
     assert_eq!(rt; bus.failed(), failed.wrapping_add(1));
     assert!(rt; !bus.is_on());
     bus.power_on();
