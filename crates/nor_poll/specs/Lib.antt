@@ -1,0 +1,5 @@
+pub mod Losing
+pub mod Reads
+pub mod Register
+pub mod Told
+pub mod Words
