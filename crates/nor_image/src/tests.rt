@@ -98,6 +98,13 @@ fn edited(alloc: Global, file: &[u8], at: usize, value: u8) -> Result<Vec<u8>, A
     Ok(edited)
 }
 
+// The file with zeros at its end, or without its last bytes.
+fn with_length(alloc: Global, file: &[u8], len: usize) -> Result<Vec<u8>, AllocError> {
+    let mut file = file.to_vec(alloc)?;
+    file.resize(len, 0)?;
+    Ok(file)
+}
+
 fn refuses_each(
     rt: &impl Abort,
     alloc: Global,
@@ -125,14 +132,14 @@ fn a_file_that_is_no_banks_is_refused_at_its_place(rt: HostRuntime) -> Result<()
     let two = bank_file(rt.alloc(), 2, 0, &[RISES, FALLS])?;
     let smaller = edited(rt.alloc(), &two, 9273, 0x10)?;
     let both_smaller = edited(rt.alloc(), &smaller, 8799, 0x0C)?;
-    let mut longer = one.clone()?;
-    longer.push(0)?;
+    let longer = with_length(rt.alloc(), &one, 8741)?;
+    let shorter = with_length(rt.alloc(), &one, 8739)?;
     assert_eq!(rt; one.len(), 8740);
     let rows = [
         (b"".to_vec(rt.alloc())?, short(0)),
         (b"NORBANK1".to_vec(rt.alloc())?, short(8)),
         (b"no!".to_vec(rt.alloc())?, short(3)),
-        (one[..8739].to_vec(rt.alloc())?, short(8739)),
+        (shorter, short(8739)),
         (longer, Some(ImageError::Trailing { at: 8740 })),
         (edited(rt.alloc(), &one, 8, 3)?, bad(8)),
         (edited(rt.alloc(), &one, 20, 0x11)?, bad(20)),
