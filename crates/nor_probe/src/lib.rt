@@ -23,5 +23,4 @@ mod showing;
 mod tables;
 
 pub use error::ProbeError;
-pub use find::{FindError, find_geometry};
 pub use probing::{Found, probe};

@@ -7,6 +7,7 @@ use nor_cell::Device::X8;
 use nor_cell::{Chip, Geometry, Set};
 use nor_image::Loaded;
 use nor_intel::Intel;
+use nor_probe::{ProbeError, probe};
 use std::alloc::Global;
 use std::process::Abort;
 use std::test::Fail;
@@ -126,5 +127,28 @@ fn a_cut_leaves_what_the_armed_mask_says(rt: HostRuntime) -> Result<(), Fail> {
         let mut bank = two_byte_bank(&rt, rt.alloc())?;
         assert_eq!(rt; cut_in_a_program(&rt, &mut bank, mask), Ok(left));
     }
+    Ok(())
+}
+
+#[test]
+fn power_that_goes_while_probing_is_told(rt: HostRuntime) -> Result<(), Fail> {
+    for after in [0, 4, 7, 8, 500, 501] {
+        let mut bank = two_byte_bank(&rt, rt.alloc())?;
+        arm(&rt, &mut bank, after);
+        assert_eq!(rt; probe::<u16, Bank>(&mut bank).err(), Some(ProbeError::Off));
+        assert_eq!(rt; bank.cycles(), u64::from(after));
+        assert_eq!(rt; bank.failed(), 1);
+    }
+    Ok(())
+}
+
+#[test]
+fn probing_makes_no_cycle_behind_its_last(rt: HostRuntime) -> Result<(), Fail> {
+    let mut bank = two_byte_bank(&rt, rt.alloc())?;
+    arm(&rt, &mut bank, 502);
+    assert!(rt; probe::<u16, Bank>(&mut bank).is_ok());
+    assert_eq!(rt; bank.cycles(), 502);
+    assert!(rt; bank.is_on());
+    assert_eq!(rt; read_word::<u16, Bank>(&mut bank, 0), Err(Off));
     Ok(())
 }

@@ -1,6 +1,6 @@
 //! Banks that probing refuses, and how many cycles it makes until then.
 
-use crate::banks::{Wiring, load, load_tables, table};
+use crate::banks::{Wiring, load_tables, table};
 use nor_bus::{Bus, SimBank};
 use nor_cell::Device::{self, X8, X16, X16Byte};
 use nor_cell::{Chip, Geometry, Set};
@@ -103,32 +103,5 @@ fn a_common_table_is_refused_as_decoding_says(rt: HostRuntime) -> Result<(), Fai
         },
     };
     assert_eq!(rt; refusal(bank), (Some(ProbeError::Query(mismatch)), 516));
-    Ok(())
-}
-
-// Power goes after so many cycles of probing.
-fn goes_off(bank: Loaded, after: u32) -> (Option<ProbeError>, u64) {
-    match bank {
-        Loaded::Intel16(mut bank) if bank.is_on() => {
-            bank.arm(after, 0);
-            refusal_on(bank)
-        }
-        _ => (None, 0),
-    }
-}
-
-#[test]
-fn power_that_goes_is_told_and_the_cycle_behind_the_last_isnt_made(
-    rt: HostRuntime,
-) -> Result<(), Fail> {
-    for after in [0, 4, 7, 8, 500, 501] {
-        let bank = load(&rt, rt.alloc(), wiring(2, 2, X8), Set::Intel)?;
-        assert_eq!(rt;
-            goes_off(bank, after),
-            (Some(ProbeError::Off), u64::from(after))
-        );
-    }
-    let bank = load(&rt, rt.alloc(), wiring(2, 2, X8), Set::Intel)?;
-    assert_eq!(rt; goes_off(bank, 502), (None, 502));
     Ok(())
 }
