@@ -1,4 +1,4 @@
-//! Wired of chips of one block, made of their cells, with nothing locked.
+//! Banks of chips of one block, made of their cells, with nothing locked.
 ghost use Rattle.std.specs.Prelude.{◌≡◌, ◌<◌, ◌≤◌, IsTrue, IfOk, length};
 ghost use Rattle.std.specs.List.{All};
 ghost use Rattle.nor_cell.specs.Ranges.{are_blocks, is_ascending_below, begin_units};
