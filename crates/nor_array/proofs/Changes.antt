@@ -175,7 +175,7 @@ module _ (a : ArrayState) (is : IsArray a) where
 
   -- a program that fails
   torn_edit : (named erased : ℕ → Bool) (at : ℕ) (new : List ℕ) (from to : ℕ) (bytes : List ℕ) → at + length new ≤ length a.bytes → FailsWithin a at new from to bytes
-      → ((p : ℕ) → at ≤ p → p < at + length new → named p ≡ true) → Edits named erased a.bytes (put (programmed a.bytes at (take (from - at) new)) from bytes)
+      → ((p : ℕ) → at ≤ p → p < to → named p ≡ true) → Edits named erased a.bytes (put (programmed a.bytes at (take (from - at) new)) from bytes)
   torn_edit named erased at new from to bytes fits fails names =
       let begins = fails.begins in
       let some = fails.some in
@@ -195,7 +195,7 @@ module _ (a : ArrayState) (is : IsArray a) where
   failed_changes relocked (Program at new) from to lanes bytes inside fails = record {
     consts = refl;
     edits = torn_edit (may_change (Failed from to lanes) (Program at new) a) (is_within (open_span a)) at new from to bytes (ltb-false (length a.bytes) (at + length new) inside) fails
-        (λ p from' high. or_left (programs_at (Program at new) p) (is_within (open_span a) p) (in_range at (length new) p from' high));
+        (λ p low high. and_from _ _ (in_range at (length new) p low (let ends = fails.ends in omega arith)) (lt-ltb p to high));
     lock_count = refl;
     locks = λ n not. refl;
     under = is.under;

@@ -36,11 +36,13 @@ abbrev pub programs_at : Op → ℕ → Bool
 programs_at (Program at new) p = nat_le at p && nat_lt p (at + length new)
 programs_at _ p = false
 
--- the entry may change the byte at this place
+-- The entry may change the byte at this place. A failed program changes none from `to` on; a failed erase its block alone.
 abbrev pub may_change : Reply → Op → ArrayState → ℕ → Bool
 may_change Done op a p = programs_at op p
 may_change Erased op a p = is_within (open_span a) p
-may_change (Failed from to lanes) op a p = programs_at op p || is_within (open_span a) p
+may_change (Failed from to lanes) (Program at new) a p = programs_at (Program at new) p && nat_lt p to
+may_change (Failed from to lanes) Poll a p = is_within (open_span a) p
+may_change (Failed from to lanes) op a p = false
 may_change (HaltedReply cause) op a p = is_on a.power && (programs_at op p || is_within (open_span a) p)
 may_change _ op a p = false
 
@@ -72,8 +74,9 @@ names_armed Done (Arm cut mask) = true
 names_armed Done PowerOn = true
 names_armed _ op = false
 
--- What an entry doesn't name stays: the constants, the bytes outside the block under erase and the range of a program, the
--- locks but for the one of a lock call and all of them at power-on, the erase under way, power and the armed cut.
+-- What an entry doesn't name stays: the constants, the bytes but for the range of a program, below `to` where it failed,
+-- and the block of an erase that ends, the locks but for the one of a lock call and all of them at power-on, the erase
+-- under way, power and the armed cut.
 pub record KeepsTheRest (a : ArrayState) (e : Entry) : Type 0 where
   pub consts : (after a e).consts ≡ a.consts
   pub size : length (after a e).bytes ≡ length a.bytes

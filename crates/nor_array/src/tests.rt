@@ -227,6 +227,29 @@ fn a_read_beside_an_open_block_has_choices(rt: HostRuntime) -> Result<(), Fail> 
 }
 
 #[test]
+fn a_lock_beside_an_open_block_has_choices(rt: HostRuntime) -> Result<(), Fail> {
+    let mut trial = bank(rt.alloc(), true, false)?;
+    let mut told = trial.entry(2, Op::Lock { block: 3 }, Reply::NotYet, &[])?;
+    let stuck = Reply::Halted(Halted::Stuck { lane: 1 });
+    assert!(rt; !trial.admits(&told));
+    told.reply = stuck;
+    assert!(rt; !trial.admits(&told));
+    trial.does(&rt, 1, Op::EraseOpen { block: 2 }, Reply::Opened)?;
+    for (len, fits) in [(0, false), (1023, false), (1025, false), (1024, true)] {
+        let left = vec![in trial.alloc; 7; len]?;
+        told.bytes = make_bytes(trial.alloc, &left)?;
+        assert_eq!(rt; trial.admits(&told), fits);
+    }
+    told.reply = Reply::NotYet;
+    assert!(rt; !trial.admits(&told));
+    told.bytes = make_bytes(trial.alloc, &[])?;
+    assert!(rt; trial.admits(&told));
+    told.reply = Reply::Done;
+    assert!(rt; trial.admits(&told));
+    Ok(())
+}
+
+#[test]
 fn an_erase_ends_with_ones(rt: HostRuntime) -> Result<(), Fail> {
     let mut trial = bank(rt.alloc(), true, false)?;
     let op = trial.program(0x7FF, &[0, 0])?;
@@ -306,6 +329,33 @@ fn a_program_over_a_weak_place_fails_there(rt: HostRuntime) -> Result<(), Fail> 
         (0x406, 0xFF),
     ] {
         assert_eq!(rt; trial.byte(at), Some(left));
+    }
+    Ok(())
+}
+
+#[test]
+fn arming_a_cut_is_done_at_once(rt: HostRuntime) -> Result<(), Fail> {
+    let mut trial = bank(rt.alloc(), true, false)?;
+    // It asks nothing of the chips: neither an armed cut nor an open block gives another reply.
+    trial.does(&rt, 0, Op::Arm { after: 7, mask: 0 }, Reply::Done)?;
+    trial.answers(&rt, 0, Op::Arm { after: 8, mask: 0 }, Reply::Done)?;
+    trial.does(&rt, 1, Op::EraseOpen { block: 2 }, Reply::Opened)?;
+    trial.answers(&rt, 0, Op::Arm { after: 8, mask: 0 }, Reply::Done)?;
+    Ok(())
+}
+
+#[test]
+fn power_on_locks_every_block(rt: HostRuntime) -> Result<(), Fail> {
+    let mut trial = bank(rt.alloc(), true, true)?;
+    for block in 0..8 {
+        trial.does(&rt, 1, Op::Unlock { block }, Reply::Done)?;
+    }
+    trial.does(&rt, 0, Op::Arm { after: 7, mask: 0 }, Reply::Done)?;
+    let off = Reply::Halted(Halted::Off { after: 7 });
+    trial.does(&rt, 1, Op::Read { at: 0, len: 1 }, off)?;
+    trial.does(&rt, 0, Op::PowerOn, Reply::Done)?;
+    for block in 0..8 {
+        trial.answers(&rt, 1, Op::IsLocked { block }, Reply::Bit(true))?;
     }
     Ok(())
 }
