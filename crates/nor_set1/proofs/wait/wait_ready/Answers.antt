@@ -1,6 +1,7 @@
 use Rattle.std.proofs.Common.{arith, refl, sym, subst, ◌∙◌, ◌+◌, ◌<◌, ℕ}
 use Rattle.nor_bus.proofs.Driving.{went_then, went_none, lost_then, few_lanes, own_kept}
 use Rattle.nor_poll.specs.Told.{seen_at}
+use Rattle.nor_poll.proofs.Counting.{counted_exactly, counted_then}
 use Rattle.nor_set1.proofs.Waiting.{is_lane, polled_more, polled_none, some_wired, ends_waiting, until_ready, darkens_reading}
 use Rattle.nor_set1.proofs.wait.wait_ready.Goals as goal
 
@@ -29,7 +30,10 @@ pub returns-in-None-clause-went : goal.returns-in-None-clause-went
 returns-in-None-clause-went g c =
     let n = c.loop.counter in
     let below : n < c.args.limit = c.loop-test.true in
-    went_then n n 1 1 1 c.args.limit (g.B.Bus.state c.args.bus.now) (g.B.Bus.state c.loop.bus) (g.B.Bus.state c.status_poll.new.bus) (omega arith) (omega arith) c.loop.invariant.went c.in-Ok.ensures.went
+    let old = g.B.Bus.state c.args.bus.now in
+    let mid = g.B.Bus.state c.loop.bus in
+    let after = g.B.Bus.state c.status_poll.new.bus in
+    counted_then n n 1 1 1 c.args.limit old mid after (omega arith) (omega arith) (counted_exactly n old mid c.loop.invariant.went) (counted_exactly 1 mid after c.in-Ok.ensures.went)
 
 pub returns-in-None-clause-until : goal.returns-in-None-clause-until
 returns-in-None-clause-until g c = λ own.

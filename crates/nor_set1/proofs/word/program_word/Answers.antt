@@ -1,10 +1,12 @@
 use Rattle.std.proofs.Common.{min, arith, ◌+◌, ◌≤◌}
 use Rattle.nor_word.specs.Word.{lane_of}
 use Rattle.nor_bus.specs.Bus.{lane, wide}
-use Rattle.nor_bus.proofs.Driving.{went_then, lost_then, few_lanes, own_kept}
+use Rattle.nor_bus.proofs.Driving.{lost_then, few_lanes, own_kept}
+use Rattle.nor_poll.specs.Counted.{Counted}
 use Rattle.nor_poll.specs.Told.{seen_at}
+use Rattle.nor_poll.proofs.Counting.{counted_lost}
 use Rattle.nor_set1.proofs.Waiting.{moved}
-use Rattle.nor_set1.proofs.Wording.{word_halts, word_done, tells, past_lanes, before_within, loses_ended}
+use Rattle.nor_set1.proofs.Wording.{word_halts, word_done, tells, past_lanes, before_within, loses_ended, counted_word}
 use Rattle.nor_set1.proofs.word.program_word.Goals as goal
 
 pub returns-in-Err-wait_ready-clause-halts : goal.returns-in-Err-wait_ready-clause-halts
@@ -24,7 +26,7 @@ returns-in-Ok-end_program-clause-done g c = λ own within k below.
     (seen_at c.in-Ok.watch.lanes k) (c.in_default.ensures.begins within k below)
     (c.in-Ok.ensures.ready (own_kept g.W.BusWord.WIDTH c.args.g old mid c.in_default.ensures.went.kept own) k there)
     (c.broken_lanes-broken.ensures.lanes k (omega (arith, few, below)))
-    (c.in-Ok-end_program.ensures.lanes k (moved mid last k c.in-Ok.ensures.went.kept.count there))
+    (c.in-Ok-end_program.ensures.lanes k (moved mid last k c.in-Ok.ensures.went.went.kept.count there))
 
 pub returns-in-Ok-end_program-clause-set : goal.returns-in-Ok-end_program-clause-set
 returns-in-Ok-end_program-clause-set g c = λ own within k below.
@@ -43,23 +45,21 @@ returns-in-Ok-end_program-clause-past g c = λ k le.
 
 pub returns-in-Ok-end_program-clause-went : goal.returns-in-Ok-end_program-clause-went
 returns-in-Ok-end_program-clause-went g c =
-    let mid = g.B.Bus.state c.begin_word.new.bus in
-    let new = g.B.Bus.state c.end_program.new.bus in
-    let last = 1 + min c.broken_lanes-broken.result.bits 1 in
-    went_then 3 3 2 (c.args.limit + last) 5 (c.args.limit + 5) (g.B.Bus.state c.args.bus.now) mid new (omega arith) (omega arith) c.in_default.ensures.went
-    (went_then 1 c.args.limit 1 last 2 (c.args.limit + last) mid (g.B.Bus.state c.wait_ready.new.bus) new (omega arith) (omega arith) c.in-Ok.ensures.went c.in-Ok-end_program.ensures.went)
+    counted_word c.args.limit (c.args.limit + 5) c.broken_lanes-broken.result.bits (g.B.Bus.state c.args.bus.now) (g.B.Bus.state c.begin_word.new.bus) (g.B.Bus.state c.wait_ready.new.bus)
+    (g.B.Bus.state c.end_program.new.bus) (omega arith) c.in_default.ensures.went c.in-Ok.ensures.went c.in-Ok-end_program.ensures.went
 
 pub returns-in-Ok-end_program-clause-prompt : goal.returns-in-Ok-end_program-clause-prompt
 returns-in-Ok-end_program-clause-prompt g c = λ own within most ends.
     let old = g.B.Bus.state c.args.bus.now in
     let mid = g.B.Bus.state c.begin_word.new.bus in
+    let last = g.B.Bus.state c.wait_ready.new.bus in
     let new = g.B.Bus.state c.end_program.new.bus in
-    let last = 1 + min c.broken_lanes-broken.result.bits 1 in
+    let bits = c.broken_lanes-broken.result.bits in
     let until = c.in-Ok.ensures.until (own_kept g.W.BusWord.WIDTH c.args.g old mid c.in_default.ensures.went.kept own) in
     let n = until.before in
     let few : n ≤ most = before_within c.args.at n most (g.W.BusWord.bytes c.args.new) old mid c.in_default.ensures.went.kept.count (c.in_default.ensures.begins within) ends until.until in
-    went_then 3 3 (n + 2) (n + 1 + last) 5 (most + 5 + min c.broken_lanes-broken.result.bits 1) old mid new (omega (arith, few)) (omega (arith, few)) c.in_default.ensures.went
-    (went_then (n + 1) (n + 1) 1 last (n + 2) (n + 1 + last) mid (g.B.Bus.state c.wait_ready.new.bus) new (omega arith) (omega arith) until.went c.in-Ok-end_program.ensures.went)
+    let polls : Counted 1 (most + 1) mid last = record { cycles = n + 1; enough = omega arith; few = omega (arith, few); went = until.went } in
+    counted_word (most + 1) (most + 5 + min bits 1) bits old mid last new (omega arith) c.in_default.ensures.went polls c.in-Ok-end_program.ensures.went
 
 pub returns-in-Err-end_program-clause-halts : goal.returns-in-Err-end_program-clause-halts
 returns-in-Err-end_program-clause-halts g c =
@@ -68,11 +68,11 @@ returns-in-Err-end_program-clause-halts g c =
     let last = g.B.Bus.state c.wait_ready.new.bus in
     let new = g.B.Bus.state c.end_program.new.bus in (
       lost_then 3 3 (c.args.limit + 2) (c.args.limit + 5) old mid new (omega arith) c.in_default.ensures.went
-          (lost_then 1 c.args.limit 2 (c.args.limit + 2) mid last new (omega arith) c.in-Ok.ensures.went c.in-Err-end_program.ensures.lost),
+          (counted_lost 1 c.args.limit 2 (c.args.limit + 2) mid last new (omega arith) c.in-Ok.ensures.went c.in-Err-end_program.ensures.lost),
       λ own within k below.
           let there = moved old mid k c.in_default.ensures.went.kept.count below in
           loses_ended c.args.at (lane_of (wide (lane old k)) (g.W.BusWord.bytes c.args.new) k) (lane old k) (lane mid k) (lane last k) (lane new k) (seen_at c.in-Ok.watch.lanes k)
           (c.in_default.ensures.begins within k below)
           (c.in-Ok.ensures.ready (own_kept g.W.BusWord.WIDTH c.args.g old mid c.in_default.ensures.went.kept own) k there)
-          (c.in-Err-end_program.ensures.loses k (moved mid last k c.in-Ok.ensures.went.kept.count there)),
+          (c.in-Err-end_program.ensures.loses k (moved mid last k c.in-Ok.ensures.went.went.kept.count there)),
     )
