@@ -7,7 +7,7 @@ ghost use Rattle.nor_poll.specs.Told.{seen_at};
 ghost use Rattle.nor_poll.specs.declared.watch.Seen.TheVariants.{Ready, Working};
 ghost use Rattle.nor_set1.specs.Wait.{EndsWaiting, ReadUntilReady, WaitHalts};
 
-use nor_bus::{Bus, Off};
+use nor_bus::Bus;
 use nor_cell::Geometry;
 use nor_poll::{Halt, Seen, Watch, status_poll};
 use nor_word::BusWord;
@@ -45,10 +45,7 @@ pub fn wait_ready<W: BusWord, B: Bus<W>>(
 {
     let mut working = 0;
     for _ in 0..limit {
-        let watch = match status_poll::<W, B>(bus, g, at) {
-            Ok(watch) => watch,
-            Err(Off) => return Err(Halt::Off),
-        };
+        let watch = status_poll::<W, B>(bus, g, at)?;
         match first_working(&watch) {
             Some(lane) => working = lane,
             None => return Ok(watch),

@@ -83,16 +83,9 @@ pub fn program_word<W: BusWord, B: Bus<W>>(
     ensures halts { IfErr result (WordHalts W.WIDTH g at (W.bytes new) limit (B.state bus.old) (B.state bus.new)) }
     ensures units { units_of (B.state bus.new) ≡ units_of (B.state bus.old) }
 {
-    if let Err(Off) = begin_word::<W, B>(bus, at, new) {
-        return Err(Halt::Off);
-    }
-    let watch = match wait_ready::<W, B>(bus, g, at, limit) {
-        Ok(watch) => watch,
-        Err(halt) => return Err(halt),
-    };
+    begin_word::<W, B>(bus, at, new)?;
+    let watch = wait_ready::<W, B>(bus, g, at, limit)?;
     let broken = broken_lanes(&watch);
-    match end_program::<W, B>(bus, broken) {
-        Ok(()) => Ok(broken),
-        Err(Off) => Err(Halt::Off),
-    }
+    end_program::<W, B>(bus, broken)?;
+    Ok(broken)
 }
