@@ -1,3 +1,4 @@
+pub mod Counted
 pub mod Losing
 pub mod Reads
 pub mod Register

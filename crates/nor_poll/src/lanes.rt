@@ -1,4 +1,8 @@
 //! What the calls of both command sets say of a bank's lanes.
+ghost use Rattle.std.specs.Prelude.{◌≡◌};
+ghost use Rattle.nor_poll.specs.declared.lanes.Halt.TheVariants.{Off as LostPower};
+
+use nor_bus::Off;
 
 /// Why a call was given up.
 #[derive(Clone, Copy, Debug, PartialEq, Eq)]
@@ -7,6 +11,14 @@ pub enum Halt {
     Off,
     /// The lane's chip was read working as often as the call allows.
     Stuck { lane: u8 },
+}
+
+impl From<Off> for Halt {
+    ghost from_gives = { λ _ halt. halt ≡ LostPower };
+
+    fn from(_off: Off) -> Halt {
+        Halt::Off
+    }
 }
 
 /// A set of lanes: bit `c` is set where it has lane `c`.

@@ -7,9 +7,10 @@
 //!
 //! `status_poll` is the poll of set 0001, whose chips show their status register.
 //!
-//! The words that the calls of both command sets share stand here too: `specs/Reads.antt` says what
-//! any number of reads make of a chip, `specs/Losing.antt` what a call that is given up leaves of
-//! one; `Halt`, `LaneSet` and `Lanes` are what those calls answer and take.
+//! The words that the calls of both command sets share stand here too: `specs/Counted.antt` says how
+//! many cycles a call made, `specs/Reads.antt` what any number of reads make of a chip,
+//! `specs/Losing.antt` what a call that is given up leaves of one; `Halt`, `LaneSet` and `Lanes` are
+//! what those calls answer and take.
 //!
 //! It works over any bus, and stands on nor_bus for the cycles and on nor_word for the lanes of a
 //! word.

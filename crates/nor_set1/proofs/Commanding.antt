@@ -1,5 +1,5 @@
 -- Codes to a chip of set 0001 that runs no job.
-use Rattle.std.proofs.Common.{◌≡◌, ◌<◌, ◌%◌, ◌==◌, ℕ, ap, subst, sym, refl, arith, ◌∙◌, if◌then◌else◌, Result, Ok, Err, OnErr, List}
+use Rattle.std.proofs.Common.{◌≡◌, ◌<◌, ◌%◌, ◌==◌, ℕ, ap, subst, sym, refl, arith, ◌∙◌, if◌then◌else◌, Result, Ok, Err, OnErr, IfErr, IsErrAnd, List}
 use Rattle.nor_cell.specs.Bits.{unit_len}
 use Rattle.nor_cell.specs.Chip.{ChipState, Flags, Array, Job, Idle, Step, Rest, runs}
 use Rattle.nor_cell.specs.Look.{suspended}
@@ -18,6 +18,11 @@ use Rattle.nor_set1.specs.Rest.{AtRest, Commands, Settles, settled, no_flags}
 pub on_err : {T E : Type 0} (r : Result T E) (P : Type 0) → P → OnErr r P
 on_err (Ok x) P p = tt
 on_err (Err e) P p = p
+
+-- a fact of the error that was given
+pub if_gave : {T E : Type 0} (r : Result T E) (e : E) (P : E → Type 0) → IsErrAnd r (λ x. x ≡ e) → P e → IfErr r P
+if_gave (Ok x) e P gave p = tt
+if_gave (Err x) e P gave p = subst P (sym gave) p
 
 -- the code is the low byte of what each lane gets
 spread_low : (device : Device) (code : ℕ) → code < 256 → spread (unit_len device) code % 256 ≡ code

@@ -1,5 +1,5 @@
 -- A program of one word, from its begin to its end.
-use Rattle.std.proofs.Common.{◌≡◌, ◌+◌, ◌<◌, ◌≤◌, ◌⊎◌, ◌^◌, ◌%◌, ◌==◌, inl, inr, ℕ, refl, sym, subst, ap, ◌∙◌, arith, Bool, true, false, List}
+use Rattle.std.proofs.Common.{◌≡◌, ◌+◌, ◌<◌, ◌≤◌, ◌⊎◌, ◌^◌, ◌%◌, ◌==◌, inl, inr, ℕ, min, refl, sym, subst, ap, ◌∙◌, arith, Bool, true, false, List}
 use Rattle.std.proofs.lemmas.Bool.{cases_lt}
 use Rattle.std.proofs.Math.Nat.{zero-div}
 use Rattle.nor_cell.specs.Bits.{has_bit, unit_bytes, unit_len}
@@ -9,9 +9,11 @@ use Rattle.nor_word.specs.Word.{lane_of}
 use Rattle.nor_bus.specs.Bus.{BusState, lane, lanes_of, units_of, wide}
 use Rattle.nor_bus.specs.Driven.{Went, AllLanes}
 use Rattle.nor_bus.proofs.Driving.{went_then, lost_then, own_kept}
+use Rattle.nor_poll.specs.Counted.{Counted}
 use Rattle.nor_poll.specs.Told.{ShowsStatus, seen}
 use Rattle.nor_poll.specs.Reads.{WorksAfter}
 use Rattle.nor_poll.specs.Words.{EachPart, word_reads, breaks, Stores}
+use Rattle.nor_poll.proofs.Counting.{counted_exactly, counted_then}
 use Rattle.nor_poll.proofs.Losing.{holds_stored}
 use Rattle.nor_poll.specs.declared.lanes.Halt.{Halt}
 use Rattle.nor_poll.specs.declared.lanes.Halt.TheVariants.{Off, Stuck}
@@ -127,6 +129,16 @@ before_within u n most word old mid count begins ends (inr some) =
     let k = some.number in
     let below = subst (λ (m : ℕ). k < m) count some.there in
     works_within u (lane_of (wide (lane old k)) word k) n most (lane old k) (lane mid k) (ends k below) (begins k below) some.works
+
+-- ---- the cycles
+
+-- three to begin, the polls, and those that end it
+pub counted_word : (polls most bits : ℕ) (old mid last new : BusState) → polls + 4 + min bits 1 ≤ most → Went 3 3 old mid → Counted 1 polls mid last
+    → Went (1 + min bits 1) (1 + min bits 1) last new → Counted 5 most old new
+counted_word polls most bits old mid last new fits begins waits ends =
+    let end = 1 + min bits 1 in
+    counted_then 3 3 2 (polls + end) 5 most old mid new (omega arith) (omega (arith, fits)) (counted_exactly 3 old mid begins)
+    (counted_then 1 polls end end 2 (polls + end) mid last new (omega arith) (omega arith) waits (counted_exactly end last new ends))
 
 -- ---- a wait that was given up
 

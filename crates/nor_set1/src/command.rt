@@ -50,7 +50,7 @@ pub fn end_program<W: BusWord, B: Bus<W>>(bus: &mut B, broken: LaneSet) -> Resul
     ensures lanes { OnOk result (EachLane (SettlesUnflagged broken.bits) (B.state bus.old) (B.state bus.new)) }
     ensures loses { OnErr result (EachLane LosesNone (B.state bus.old) (B.state bus.new)) }
     ensures power { OnOk result ((B.state bus.new).power ≡ true) }
-    ensures went { OnOk result (Went 1 (1 + min broken.bits 1) (B.state bus.old) (B.state bus.new)) }
+    ensures went { OnOk result (Went (1 + min broken.bits 1) (1 + min broken.bits 1) (B.state bus.old) (B.state bus.new)) }
     ensures lost { OnErr result (Lost 2 (B.state bus.old) (B.state bus.new)) }
     ensures units { units_of (B.state bus.new) ≡ units_of (B.state bus.old) }
 {

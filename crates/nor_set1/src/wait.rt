@@ -1,12 +1,13 @@
 ghost use Rattle.std.specs.Prelude.{◌≡◌, ◌≢◌, ◌<◌, ◌≤◌, ℕ, true, IsTrue, IfOk, IfErr, OnOk, IfSome, IsNone};
 ghost use Rattle.nor_cell.specs.Wiring.{is_wiring};
 ghost use Rattle.nor_bus.specs.Bus.{units_of, lane, lanes_of};
-ghost use Rattle.nor_bus.specs.Driven.{IsOwn, Went};
+ghost use Rattle.nor_bus.specs.Driven.{IsOwn};
+ghost use Rattle.nor_poll.specs.Counted.{Counted};
 ghost use Rattle.nor_poll.specs.Told.{seen_at};
 ghost use Rattle.nor_poll.specs.declared.watch.Seen.TheVariants.{Ready, Working};
 ghost use Rattle.nor_set1.specs.Wait.{EndsWaiting, ReadUntilReady, WaitHalts};
 
-use nor_bus::{Bus, Off};
+use nor_bus::Bus;
 use nor_cell::Geometry;
 use nor_poll::{Halt, Seen, Watch, status_poll};
 use nor_word::BusWord;
@@ -37,17 +38,14 @@ pub fn wait_ready<W: BusWord, B: Bus<W>>(
     requires wiring { IsTrue (is_wiring W.WIDTH g.lanes g.device) }
     ensures ready { IfOk result (λ watch. IsOwn W.WIDTH g (B.state bus.old) → (c : ℕ) → c < lanes_of (B.state bus.old) → EndsWaiting (lane (B.state bus.old) c) (seen_at watch.lanes c) (lane (B.state bus.new) c)) }
     ensures past { IfOk result (λ watch. (c : ℕ) → g.lanes ≤ c → seen_at watch.lanes c ≡ Ready) }
-    ensures went { OnOk result (Went 1 limit (B.state bus.old) (B.state bus.new)) }
+    ensures went { OnOk result (Counted 1 limit (B.state bus.old) (B.state bus.new)) }
     ensures until { OnOk result (IsOwn W.WIDTH g (B.state bus.old) → ReadUntilReady (B.state bus.old) (B.state bus.new)) }
     ensures halts { IfErr result (WaitHalts W.WIDTH g limit (B.state bus.old) (B.state bus.new)) }
     ensures units { units_of (B.state bus.new) ≡ units_of (B.state bus.old) }
 {
     let mut working = 0;
     for _ in 0..limit {
-        let watch = match status_poll::<W, B>(bus, g, at) {
-            Ok(watch) => watch,
-            Err(Off) => return Err(Halt::Off),
-        };
+        let watch = status_poll::<W, B>(bus, g, at)?;
         match first_working(&watch) {
             Some(lane) => working = lane,
             None => return Ok(watch),

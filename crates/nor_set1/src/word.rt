@@ -5,6 +5,7 @@ ghost use Rattle.nor_cell.specs.Wiring.{is_wiring};
 ghost use Rattle.nor_word.specs.Word.{lane_of};
 ghost use Rattle.nor_bus.specs.Bus.{units_of, lane, lanes_of, wide};
 ghost use Rattle.nor_bus.specs.Driven.{IsOwn, Went, Lost, AllLanes};
+ghost use Rattle.nor_poll.specs.Counted.{Counted};
 ghost use Rattle.nor_poll.specs.Told.{seen_at};
 ghost use Rattle.nor_poll.specs.Words.{EachPart};
 ghost use Rattle.nor_set1.specs.Word.{BeginsWord, ProgramsWord, TellsBroken, EndsWithin, LosesWord, WordHalts, is_broken};
@@ -61,9 +62,10 @@ fn begin_word<W: BusWord, B: Bus<W>>(bus: &mut B, at: u32, new: W) -> Result<(),
 /// are weak there and would change: these hold bits between.
 ///
 /// It makes four writes, a fifth where a lane broke off, and one poll more than the slowest lane shows
-/// working. `Off` comes only where a cycle failed. `Stuck` names a lane that was read working `limit`
-/// times, and whose chip is stuck where a word takes fewer reads than that. After both, each lane's
-/// unit has bits between, and nothing else has changed but, after `Off`, a block under erase.
+/// working; an armed cut comes as many cycles nearer. `Off` comes only where a cycle failed. `Stuck`
+/// names a lane that was read working `limit` times, and whose chip is stuck where a word takes fewer
+/// reads than that. After both, each lane's unit has bits between, and nothing else has changed but,
+/// after `Off`, a block under erase.
 pub fn program_word<W: BusWord, B: Bus<W>>(
     bus: &mut B,
     g: Geometry,
@@ -76,21 +78,14 @@ pub fn program_word<W: BusWord, B: Bus<W>>(
     ensures set { IfOk result (λ set. IsOwn W.WIDTH g (B.state bus.old) → at < units_of (B.state bus.old) → (c : ℕ) → c < lanes_of (B.state bus.old) → TellsBroken at (has_bit set.bits c) (lane_of (wide (lane (B.state bus.old) c)) (W.bytes new) c) (lane (B.state bus.old) c)) }
     ensures past { IfOk result (λ set. (c : ℕ) → g.lanes ≤ c → has_bit set.bits c ≡ false) }
     ensures power { OnOk result ((B.state bus.new).power ≡ true) }
-    ensures went { OnOk result (Went 5 (limit + 5) (B.state bus.old) (B.state bus.new)) }
-    ensures prompt { IfOk result (λ set. IsOwn W.WIDTH g (B.state bus.old) → at < units_of (B.state bus.old) → (most : ℕ) → AllLanes (EndsWithin at most) (B.state bus.old) → Went 5 (most + 5 + min set.bits 1) (B.state bus.old) (B.state bus.new)) }
+    ensures went { OnOk result (Counted 5 (limit + 5) (B.state bus.old) (B.state bus.new)) }
+    ensures prompt { IfOk result (λ set. IsOwn W.WIDTH g (B.state bus.old) → at < units_of (B.state bus.old) → (most : ℕ) → AllLanes (EndsWithin at most) (B.state bus.old) → Counted 5 (most + 5 + min set.bits 1) (B.state bus.old) (B.state bus.new)) }
     ensures halts { IfErr result (WordHalts W.WIDTH g at (W.bytes new) limit (B.state bus.old) (B.state bus.new)) }
     ensures units { units_of (B.state bus.new) ≡ units_of (B.state bus.old) }
 {
-    if let Err(Off) = begin_word::<W, B>(bus, at, new) {
-        return Err(Halt::Off);
-    }
-    let watch = match wait_ready::<W, B>(bus, g, at, limit) {
-        Ok(watch) => watch,
-        Err(halt) => return Err(halt),
-    };
+    begin_word::<W, B>(bus, at, new)?;
+    let watch = wait_ready::<W, B>(bus, g, at, limit)?;
     let broken = broken_lanes(&watch);
-    match end_program::<W, B>(bus, broken) {
-        Ok(()) => Ok(broken),
-        Err(Off) => Err(Halt::Off),
-    }
+    end_program::<W, B>(bus, broken)?;
+    Ok(broken)
 }
