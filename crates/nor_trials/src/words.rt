@@ -3,10 +3,11 @@ ghost use Rattle.std.specs.Prelude.{IsTrue};
 ghost use Rattle.nor_cell.specs.Wiring.{is_wiring};
 
 use crate::chips::{Setup, WEAK_PLACE, make_bank};
-use nor_bus::{Bus, SimBank, read_word, write_code};
+use nor_bus::{Bus, SimBank, read_word, write_code, write_word};
 use nor_cell::Device::{self, X8, X16, X16Byte};
 use nor_cell::{Geometry, make_geometry};
 use nor_intel::Intel;
+use nor_poll::{Seen, Watch, status_poll};
 use nor_set1::{Halt, LaneSet, LaneState, Lanes, program_word, settle};
 use nor_word::BusWord;
 use std::alloc::Global;
@@ -215,6 +216,19 @@ fn a_stuck_lane_ends_the_call(rt: HostRuntime) -> Result<(), Fail> {
     assert!(rt; !bank.is_on());
     bank.power_on();
     reads(&rt, &mut bank, 0, 0xFFFF_0000);
+    Ok(())
+}
+
+#[test]
+fn a_poll_tells_each_lane_by_itself(rt: HostRuntime) -> Result<(), Fail> {
+    let mut bank = two_chips(&rt, rt.alloc(), None, Some(1))?;
+    assert!(rt; write_code::<u32, SimBank<u32, Intel>>(&mut bank, 0, 0x40).is_ok());
+    assert!(rt; write_word::<u32, SimBank<u32, Intel>>(&mut bank, 0, 0).is_ok());
+    for first in [Seen::Working, Seen::Working, Seen::Ready] {
+        let lanes = [first, Seen::Working, Seen::Ready, Seen::Ready];
+        let watch = status_poll(&mut bank, TWO_CHIPS, 0);
+        assert_eq!(rt; watch, Ok(Watch { lanes }));
+    }
     Ok(())
 }
 

@@ -164,6 +164,24 @@ fn unfound(
 }
 
 #[test]
+fn a_file_that_is_no_banks_is_told(rt: HostRuntime) -> Result<(), Fail> {
+    let alloc = rt.alloc();
+    let width = changed(file_of(alloc, one_x16())?, 8, 3);
+    let bad: [Case; 1] = [(&["show", "bank"], 3, b"image: bad header at 8\n")];
+    expect(&rt, alloc, &width, &bad)?;
+    let mut longer = file_of(alloc, one_x16())?;
+    longer.push(0)?;
+    let trailing: [Case; 1] = [(&["show", "bank"], 3, b"image: trailing at 8740\n")];
+    expect(&rt, alloc, &longer, &trailing)?;
+    // Lane 1's table and its size say 4 KiB.
+    let size = changed(file_of(alloc, two_x8())?, 8799, 12);
+    let other = changed(size, 9273, 0x10);
+    let differs: [Case; 1] = [(&["show", "bank"], 3, b"image: size differs in lane 1\n")];
+    expect(&rt, alloc, &other, &differs)?;
+    Ok(())
+}
+
+#[test]
 fn probing_says_why_a_bank_is_refused(rt: HostRuntime) -> Result<(), Fail> {
     let alloc = rt.alloc();
     // Lane 0's table begins at place 32 of the file, lane 1's at place 8760.
