@@ -1,9 +1,8 @@
 -- Records that are read one after another.
-use Rattle.std.proofs.Common.{◌≡◌, ◌≢◌, ◌<◌, ◌≤◌, ◌⊎◌, inl, inr, ◌+◌, ◌*◌, ℕ, zero, suc, List, [], ◌∷◌, ◌++◌, length, map, true, false, nat_lt, refl, sym, ap, subst, ◌∙◌, arith, add-one, Some, None}
+use Rattle.std.proofs.Common.{◌≡◌, ◌≢◌, ◌<◌, ◌≤◌, ◌⊎◌, inl, inr, ◌+◌, ◌*◌, ℕ, zero, suc, List, [], ◌∷◌, ◌++◌, length, map, IsTrue, refl, sym, ap, subst, ◌∙◌, arith, add-one, Some, None}
 use Rattle.std.proofs.Math.ListN.{get_or-append}
 use Rattle.std.proofs.Math.Seq.{get_or-append_seam}
 use Rattle.std.proofs.lemmas.Bool.{cases_eq}
-use Rattle.std.proofs.lemmas.Bool.Decides.{nat_tests}
 use Rattle.std.proofs.lemmas.List.{length-append, map-append}
 use Rattle.nor_cell.specs.Bits.{AreBytes}
 use Rattle.nor_cell.specs.Cells.{chip_of}
@@ -12,11 +11,12 @@ use Rattle.nor_cell.specs.Power.{powered}
 use Rattle.nor_cell.specs.declared.cells.Cells.{Cells}
 use Rattle.nor_cell.specs.declared.device.Set.{Set}
 use Rattle.nor_bus.specs.Bus.{chip_at, no_chip}
-use Rattle.nor_image.specs.Image.{first_refusal, record_fields, fields_before, header_fields, record_place, record_end, lanes_of_file, device_of, size_in, chip_in, trailing, image_refusal}
+use Rattle.nor_bus.proofs.Sizes.{chip_size}
+use Rattle.nor_image.specs.Image.{first_refusal, record_fields, fields_before, header_fields, record_place, record_end, lanes_of_file, device_of, size_in, chip_in, trailing, image_refusal, is_size_by}
 use Rattle.nor_image.specs.Reading.{AreStored, AreChips, chips_of}
 use Rattle.nor_image.specs.declared.error.ImageError.{ImageError}
 use Rattle.nor_image.specs.declared.error.ImageError.TheVariants.{Trailing}
-use Rattle.nor_image.proofs.Refusals.{or_none, or_some, goes_on, stops, stays}
+use Rattle.nor_image.proofs.Refusals.{or_none, or_some, goes_on, stops, stays, goes_further, ends}
 
 -- what holds of each chip holds of one more
 pushed : (n c : ℕ) (P : ℕ → ChipState → Type 0) (xs : List ChipState) (x : ChipState) → length xs ≡ n → (c < n → P c (chip_at xs c)) → P n x
@@ -31,19 +31,22 @@ pushed n c P xs x long before here below (inr apart) =
 
 -- one more chip
 chips_pushed : (file : List ℕ) (set : Set) (n : ℕ) (xs : List ChipState) (x : ChipState) → AreChips file set n xs
-    → x ≡ chip_in file set (device_of file) (record_place file n) → length x.cells ≡ size_in file 12 → AreBytes x.cells → AreChips file set (n + 1) (xs ++ x ∷ [])
-chips_pushed file set n xs x so is size bytes = record {
+    → x ≡ chip_in file set (device_of file) (record_place file n) → length x.cells ≡ size_in file 12 → AreBytes x.cells
+    → IsTrue (is_size_by x.part.table (length x.cells)) → AreChips file set (n + 1) (xs ++ x ∷ [])
+chips_pushed file set n xs x so is size bytes fits = record {
   count = length-append xs (x ∷ []) ∙ (let long = so.count in omega arith);
   each = λ c below. pushed n c (λ k s. s ≡ chip_in file set (device_of file) (record_place file k)) xs x so.count (so.each c) is below (cases_eq c n);
   sizes = λ c below. pushed n c (λ k s. length s.cells ≡ size_in file 12) xs x so.count (so.sizes c) size below (cases_eq c n);
   bytes = λ c below. pushed n c (λ k s. AreBytes s.cells) xs x so.count (so.bytes c) bytes below (cases_eq c n);
+  fits = λ c below. pushed n c (λ k s. IsTrue (is_size_by s.part.table (length s.cells))) xs x so.count (so.fits c) fits below (cases_eq c n);
 }
 
 -- the first n records were read, and none of their fields refused; the next one begins at a place
 pub record LanesSoFar (file : List ℕ) (n at : ℕ) (lanes : List Cells) : Type 0 where
   pub at_is : at ≡ record_place file n
   pub behind : 12 ≤ at
-  pub within : at ≤ length file
+  -- no record has more than 256 weak places and 2 ^ 27 cells
+  pub near : at ≤ 12 + 134219288 * n
   pub none : first_refusal file (fields_before file n) ≡ None
   pub chips : (set : Set) → AreChips file set n (chips_of set lanes)
 
@@ -54,18 +57,20 @@ pub lanes_more : (file : List ℕ) (n at next : ℕ) (lanes more : List Cells) (
 lanes_more file n at next lanes more cells so right stored further pushed =
     let f : Set → Cells → ChipState = λ set c. powered (chip_of set c) in
     let end : next ≡ record_end file at = (let a = stored.weak in let b = stored.size in omega arith) in
-    let whole = stored.whole in
     let behind = so.behind in
+    let near = so.near in
+    let few = cells.few_weak in
+    let small = (chip_size (length cells.bytes.items) cells.sized).1 in
     let chip : (set : Set) → powered (chip_of set cells) ≡ chip_in file set (device_of file) (record_place file n) =
     λ set. stored.chip set ∙ ap (chip_in file set (device_of file)) so.at_is in
     let chips : (set : Set) → AreChips file set (n + 1) (chips_of set more) = λ set.
     subst (λ (xs : List ChipState). AreChips file set (n + 1) xs) (sym (ap (map (f set)) pushed ∙ map-append (f set) lanes (cells ∷ [])))
-    (chips_pushed file set n (chips_of set lanes) (powered (chip_of set cells)) (so.chips set) (chip set) stored.same stored.bytes) in
+    (chips_pushed file set n (chips_of set lanes) (powered (chip_of set cells)) (so.chips set) (chip set) stored.same stored.bytes stored.fits) in
     let right' : first_refusal file (record_fields file n (record_place file n)) ≡ None = subst (λ (p : ℕ). first_refusal file (record_fields file n p) ≡ None) so.at_is right in
     record {
       at_is = end ∙ (ap (record_end file) so.at_is ∙ ap (record_place file) (sym (add-one n)));
       behind = omega arith;
-      within = omega arith;
+      near = omega arith;
       none = ap (λ (k : ℕ). first_refusal file (fields_before file k)) (add-one n)
           ∙ (goes_on file (fields_before file n) (record_fields file n (record_place file n)) so.none ∙ right');
       chips = chips;
@@ -89,18 +94,6 @@ lane_stops file n at lanes e so below refused =
     or_some _ _ e (stays file (fields_before file) (λ k. record_fields file k (record_place file k)) (λ k. refl) e n (lanes_of_file file) below so.none
     (subst (λ (p : ℕ). first_refusal file (record_fields file n p) ≡ Some e) so.at_is refused))
 
--- the file goes on behind a place
-goes_further : (file : List ℕ) (end : ℕ) → end < length file → trailing file end ≡ Some (Trailing end)
-goes_further file end h =
-    let longer : nat_lt end (length file) ≡ true = grind (arith, nat_tests) in
-    rw longer refl
-
--- the file ends there
-ends : (file : List ℕ) (end : ℕ) → length file ≤ end → trailing file end ≡ None
-ends file end h =
-    let not_longer : nat_lt end (length file) ≡ false = grind (arith, nat_tests) in
-    rw not_longer refl
-
 -- bytes behind the last record
 pub trailing_stops : (file : List ℕ) (n at : ℕ) (lanes : List Cells) → LanesSoFar file n at lanes → n ≡ lanes_of_file file
     → at < length file → image_refusal file ≡ Some (Trailing at)
@@ -118,22 +111,3 @@ nothing_stops file n at lanes so all whole =
     let last : at ≡ record_place file (lanes_of_file file) = so.at_is ∙ ap (record_place file) all in
     or_none _ _ (subst (λ (k : ℕ). first_refusal file (fields_before file k) ≡ None) all so.none)
     ∙ subst (λ (p : ℕ). trailing file p ≡ None) last (ends file at whole)
-
--- the chips of no record
-no_chips : (file : List ℕ) (set : Set) → AreChips file set 0 []
-no_chips file set = record {
-  count = refl;
-  each = λ c below. absurd (omega arith);
-  sizes = λ c below. absurd (omega arith);
-  bytes = λ c below. absurd (omega arith);
-}
-
--- before the first record
-pub no_lanes : (file : List ℕ) (lanes : List Cells) → first_refusal file (header_fields file) ≡ None → 12 ≤ length file → lanes ≡ [] → LanesSoFar file 0 12 lanes
-no_lanes file lanes header long none = record {
-  at_is = refl;
-  behind = omega arith;
-  within = long;
-  none = header;
-  chips = λ set. subst (λ (xs : List Cells). AreChips file set 0 (chips_of set xs)) (sym none) (no_chips file set);
-}

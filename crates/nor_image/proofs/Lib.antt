@@ -1,7 +1,13 @@
+pub mod Accepting
 pub mod Images
 pub mod Joined
 pub mod Lanes
+pub mod Putting
+pub mod ReadBack
 pub mod Records
 pub mod Refusals
 pub mod Sizes
+pub mod Standing
+pub mod Storing
+pub mod Unique
 pub mod WeakPlaces

@@ -1,5 +1,5 @@
 -- What the fields of a record refuse, and the chip that it stores.
-use Rattle.std.proofs.Common.{◌≡◌, ◌+◌, ◌==◌, ℕ, List, [], ◌∷◌, ◌++◌, slice_index, refl, ap, ◌∙◌, Option, Some, None}
+use Rattle.std.proofs.Common.{◌≡◌, ◌+◌, ◌==◌, ℕ, List, [], ◌∷◌, ◌++◌, length, replicate, false, slice_index, refl, ap, ◌∙◌, Option, Some, None}
 use Rattle.std.specs.Option.{option_or}
 use Rattle.nor_cell.specs.Cells.{chip_of}
 use Rattle.nor_cell.specs.Power.{powered}
@@ -8,6 +8,7 @@ use Rattle.nor_cell.specs.declared.device.Device.{Device}
 use Rattle.nor_cell.specs.declared.device.Set.{Set}
 use Rattle.nor_bus.specs.Bus.{no_chip}
 use Rattle.nor_io.specs.Fields.{u32_at}
+use Rattle.nor_query.specs.Derived.{table_blocks}
 use Rattle.nor_image.specs.Image.{Field, first_refusal, refusal_of, record_fields, number_fields, table_field, size_field, weak_fields, cells_field, weak_count, table_in, weak_in, bytes_at, cells_at, size_in, chip_in}
 use Rattle.nor_image.specs.declared.error.ImageError.{ImageError}
 use Rattle.nor_image.proofs.Refusals.{or_none, or_some, first_refusal-append}
@@ -18,7 +19,7 @@ or_nil None = refl
 or_nil (Some e) = refl
 
 -- the parts of a record, in their order
-in_parts : (file : List ℕ) (c at : ℕ) → first_refusal file (record_fields file c at) ≡
+pub in_parts : (file : List ℕ) (c at : ℕ) → first_refusal file (record_fields file c at) ≡
     option_or (first_refusal file (number_fields file at))
     (option_or (refusal_of file (table_field at))
     (option_or (refusal_of file (size_field file c at))
@@ -59,14 +60,14 @@ in_cells file c at numbers table size weak = in_parts file c at ∙ (or_none _ _
 pub record IsMade (file : List ℕ) (device : Device) (at : ℕ) (cells : Cells) : Type 0 where
   pub device_is : cells.device ≡ device
   pub table : cells.table ≡ table_in file at
-  pub blocks : cells.blocks.items ≡ []
+  pub blocks : cells.blocks.items ≡ table_blocks (table_in file at)
   pub weak : cells.weak.items ≡ weak_in file at (weak_count file at)
   pub stuck : cells.stuck ≡ (slice_index file (at + 9) == 1)
   pub pace_program : cells.pace_program ≡ u32_at file at
   pub pace_erase : cells.pace_erase ≡ u32_at file (at + 4)
   pub pace_suspend : cells.pace_suspend ≡ slice_index file (at + 8)
   pub bytes : cells.bytes.items ≡ bytes_at file (cells_at file at) (size_in file at)
-  pub locks : cells.locks.items ≡ []
+  pub locks : cells.locks.items ≡ replicate (length (table_blocks (table_in file at))) false
   pub suspends : cells.suspends ≡ u32_at file (at + 12)
   pub erases : cells.erases ≡ u32_at file (at + 16)
 

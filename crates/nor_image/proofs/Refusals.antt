@@ -1,9 +1,11 @@
 -- The first refusal among fields.
-use Rattle.std.proofs.Common.{◌≡◌, ◌≢◌, ◌<◌, ◌⊎◌, inl, inr, ℕ, zero, suc, List, [], ◌∷◌, ◌++◌, refl, sym, ap, subst, ◌∙◌, arith, Option, Some, None}
+use Rattle.std.proofs.Common.{◌≡◌, ◌≢◌, ◌<◌, ◌≤◌, ◌⊎◌, inl, inr, ℕ, zero, suc, List, [], ◌∷◌, ◌++◌, length, true, false, nat_lt, refl, sym, ap, subst, ◌∙◌, arith, Option, Some, None}
 use Rattle.std.proofs.lemmas.Bool.{cases_eq}
+use Rattle.std.proofs.lemmas.Bool.Decides.{nat_tests}
 use Rattle.std.specs.Option.{option_or}
-use Rattle.nor_image.specs.Image.{Field, any_field, first_refusal, refusal_of}
+use Rattle.nor_image.specs.Image.{Field, any_field, first_refusal, refusal_of, trailing}
 use Rattle.nor_image.specs.declared.error.ImageError.{ImageError}
+use Rattle.nor_image.specs.declared.error.ImageError.TheVariants.{Trailing}
 
 -- nothing is refused first, so what follows decides
 pub or_none : (p q : Option ImageError) → p ≡ None → option_or p q ≡ q
@@ -51,3 +53,15 @@ stays file F G step e k (suc n) below none some =
 -- a field at the same place with the same size
 pub any_at : (file : List ℕ) (a b n m : ℕ) → a ≡ b → n ≡ m → refusal_of file (any_field a n) ≡ refusal_of file (any_field b m)
 any_at file a b n m p q = λ i. refusal_of file (any_field (p i) (q i))
+
+-- the file goes on behind a place
+pub goes_further : (file : List ℕ) (end : ℕ) → end < length file → trailing file end ≡ Some (Trailing end)
+goes_further file end h =
+    let longer : nat_lt end (length file) ≡ true = grind (arith, nat_tests) in
+    rw longer refl
+
+-- the file ends there
+pub ends : (file : List ℕ) (end : ℕ) → length file ≤ end → trailing file end ≡ None
+ends file end h =
+    let not_longer : nat_lt end (length file) ≡ false = grind (arith, nat_tests) in
+    rw not_longer refl

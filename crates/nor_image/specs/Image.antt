@@ -11,12 +11,11 @@ use Rattle.nor_cell.specs.Wiring.{is_wiring}
 use Rattle.nor_cell.specs.declared.device.Device.{Device}
 use Rattle.nor_cell.specs.declared.device.Device.TheVariants.{X8, X16, X16Byte}
 use Rattle.nor_cell.specs.declared.device.Set.{Set}
-use Rattle.nor_cell.specs.declared.device.Set.TheVariants.{Amd}
-use Rattle.nor_cell.specs.declared.device.Span.{Span}
 use Rattle.nor_bus.specs.Bus.{chip_at, no_chip}
 use Rattle.nor_io.specs.Fields.{u16_at, u32_at}
+use Rattle.nor_query.specs.Derived.{table_blocks}
 use Rattle.nor_image.specs.declared.error.ImageError.{ImageError}
-use Rattle.nor_image.specs.declared.error.ImageError.TheVariants.{BadMagic, BadHeader, Truncated, Trailing, SizeDiffers, NotBuilt, NoMemory}
+use Rattle.nor_image.specs.declared.error.ImageError.TheVariants.{BadMagic, BadHeader, Truncated, Trailing, SizeDiffers, NoMemory}
 
 -- ---- what the header says
 
@@ -190,17 +189,13 @@ image_refusal file =
 
 -- ---- the chips that a well formed file stands for
 
--- The blocks that a table gives. None yet: tables aren't decoded.
-abbrev pub blocks_of_table : List ℕ → List Span
-blocks_of_table table = []
-
 -- what the chip is whose record begins at a place
 abbrev pub part_in : List ℕ → Set → Device → ℕ → Part
 part_in file set device at = record {
   set = set;
   device = device;
   table = table_in file at;
-  blocks = blocks_of_table (table_in file at);
+  blocks = table_blocks (table_in file at);
   weak = weak_in file at (weak_count file at);
   stuck = slice_index file (at + 9) == 1;
   pace_program = u32_at file at;
@@ -213,21 +208,23 @@ abbrev pub chip_in : List ℕ → Set → Device → ℕ → ChipState
 chip_in file set device at = powered (record no_chip {
   part = part_in file set device at;
   cells = bytes_at file (cells_at file at) (size_in file at);
-  locks = replicate (length (blocks_of_table (table_in file at))) false;
+  locks = replicate (length (table_blocks (table_in file at))) false;
   suspends = u32_at file (at + 12);
   erases = u32_at file (at + 16);
 })
 
--- The file is well formed, and stands for a bank of these chips.
-pub record IsImageOf (file : List ℕ) (set : Set) (device : Device) (chips : List ChipState) : Type 0 where
+-- the chip of lane c
+abbrev pub chip_of_lane : List ℕ → ℕ → ChipState
+chip_of_lane file c = chip_in file (machine_of file) (device_of file) (record_place file c)
+
+-- The file is well formed, and stands for a bank of these chips on a bus of so many bytes.
+pub record IsImageOf (file : List ℕ) (width : ℕ) (chips : List ChipState) : Type 0 where
   pub well_formed : image_refusal file ≡ None
-  pub machine : machine_of file ≡ set
-  pub wired : device_of file ≡ device
+  pub bus : width_of file ≡ width
   pub count : length chips ≡ lanes_of_file file
-  pub each : (c : ℕ) → c < length chips → chip_at chips c ≡ chip_in file set device (record_place file c)
+  pub each : (c : ℕ) → c < length chips → chip_at chips c ≡ chip_of_lane file c
 
 -- Why an error comes: want of memory has no cause in the file.
 abbrev pub IsCause : List ℕ → ImageError → Type 0
 IsCause file NoMemory = Unit {0}
-IsCause file NotBuilt = (image_refusal file ≡ None) × (machine_of file ≡ Amd)
 IsCause file error = image_refusal file ≡ Some error

@@ -1,3 +1,5 @@
 pub mod Image
 pub mod Loaded
 pub mod Reading
+pub mod Written
+pub mod Writing

@@ -10,9 +10,9 @@ use Rattle.nor_cell.specs.declared.device.Device.{Device}
 use Rattle.nor_cell.specs.declared.device.Set.{Set}
 use Rattle.nor_bus.specs.Bus.{chip_at}
 use Rattle.nor_io.specs.Fields.{u32_at}
-use Rattle.nor_image.specs.Image.{device_of, width_of, lanes_of_file, weak_count, size_in, record_place, record_end, chip_in}
+use Rattle.nor_image.specs.Image.{device_of, width_of, lanes_of_file, weak_count, size_in, record_place, chip_in, is_size_by}
 use Rattle.nor_image.specs.declared.error.ImageError.{ImageError}
-use Rattle.nor_image.specs.declared.error.ImageError.TheVariants.{BadMagic, BadHeader, Truncated, Trailing, SizeDiffers, NotBuilt, NoMemory}
+use Rattle.nor_image.specs.declared.error.ImageError.TheVariants.{BadMagic, BadHeader, Truncated, Trailing, SizeDiffers, NoMemory}
 use Rattle.nor_image.specs.declared.header.Header.{Header}
 use Rattle.nor_image.specs.declared.record.Numbers.{Numbers}
 
@@ -23,7 +23,6 @@ IsRefusal (BadHeader at) = Unit {0}
 IsRefusal (Truncated at) = Unit {0}
 IsRefusal (Trailing at) = Unit {0}
 IsRefusal (SizeDiffers lane) = Unit {0}
-IsRefusal NotBuilt = ⊥
 IsRefusal NoMemory = ⊥
 
 -- a value of which P holds where there is no refusal, and else the refusal
@@ -42,7 +41,6 @@ pub record IsHeader (file : List ℕ) (header : Header) : Type 0 where
   pub lanes : header.geometry.lanes ≡ lanes_of_file file
   pub device : header.geometry.device ≡ device_of file
   pub wired : IsTrue (is_wiring (width_of file) (lanes_of_file file) (device_of file))
-  pub whole : 12 ≤ length file
 
 -- what the record that begins at a place says first
 pub record AreNumbers (file : List ℕ) (at : ℕ) (numbers : Numbers) : Type 0 where
@@ -62,9 +60,9 @@ pub record AreStored (file : List ℕ) (device : Device) (at : ℕ) (cells : Cel
   pub weak : length cells.weak.items ≡ weak_count file at
   pub size : length cells.bytes.items ≡ size_in file at
   pub bytes : AreBytes cells.bytes.items
+  pub fits : IsTrue (is_size_by cells.table (length cells.bytes.items))
   -- as many as lane 0's chip has
   pub same : length cells.bytes.items ≡ size_in file 12
-  pub whole : record_end file at ≤ length file
 
 -- the chips that cells make, just powered on
 abbrev pub chips_of : Set → List Cells → List ChipState
@@ -76,6 +74,7 @@ pub record AreChips (file : List ℕ) (set : Set) (n : ℕ) (chips : List ChipSt
   pub each : (c : ℕ) → c < n → chip_at chips c ≡ chip_in file set (device_of file) (record_place file c)
   pub sizes : (c : ℕ) → c < n → length (chip_at chips c).cells ≡ size_in file 12
   pub bytes : (c : ℕ) → c < n → AreBytes (chip_at chips c).cells
+  pub fits : (c : ℕ) → c < n → IsTrue (is_size_by (chip_at chips c).part.table (length (chip_at chips c).cells))
 
 -- The cells of all records, whichever set they are to be powered on with.
 abbrev pub AreLanes : List ℕ → List Cells → Type 0

@@ -1,6 +1,6 @@
 use std::alloc::{AllocError, AllocFailed};
 
-/// Why a file stands for no bank that can be built. Places are in bytes from the file's start.
+/// Why a file stands for no bank. Places are in bytes from the file's start.
 #[derive(Clone, Copy, Debug, PartialEq, Eq)]
 pub enum ImageError {
     /// The file begins with other eight bytes than `NORBANK1`.
@@ -13,8 +13,6 @@ pub enum ImageError {
     Trailing { at: u32 },
     /// The chip of this lane may have its size, but lane 0's has another.
     SizeDiffers { lane: u8 },
-    /// The file is well formed, and its chips are of set 0002, which isn't built.
-    NotBuilt,
     /// Memory ran out.
     NoMemory,
 }

@@ -1,4 +1,4 @@
-ghost use Rattle.std.specs.Prelude.{◌≡◌, ◌≤◌, ◌<◌, ◌^◌, ◌↔◌, ℕ, length, slice_index, nat_le, IfOk, None, Some, if◌then◌else◌};
+ghost use Rattle.std.specs.Prelude.{◌≡◌, ◌≤◌, ◌<◌, ◌+◌, ◌^◌, length, slice_index, nat_le, IfOk, None, Some, if◌then◌else◌};
 ghost use Rattle.nor_io.specs.Fields.{u16_at, u32_at};
 ghost use Rattle.nor_image.specs.Image.{any_field, tested_field, refusal_of, bytes_at};
 ghost use Rattle.nor_image.specs.Reading.{Reads};
@@ -6,9 +6,9 @@ ghost use Rattle.nor_image.specs.Reading.{Reads};
 use crate::ImageError;
 use nor_io::{field_u16, field_u32};
 
-// A field that isn't whole is refused where the file ends.
+// A field that isn't whole is refused where the file ends, which then isn't far.
 fn truncated(file: &[u8]) -> ImageError
-    requires { length file.now ≤ 2 ^ 30 }
+    requires { length file.now < 2 ^ 32 }
     ensures { result ≡ ImageError.Truncated (length file.now) }
 {
     ImageError::Truncated {
@@ -29,32 +29,39 @@ pub fn check(valid: bool, at: usize) -> Result<(), ImageError>
 }
 
 pub fn bytes_field(file: &[u8], at: usize, size: u32) -> Result<&[u8], ImageError>
-    requires small { length file.now ≤ 2 ^ 30 }
-    requires near { at < 2 ^ 32 }
+    requires { at + size < 2 ^ 32 }
     ensures read { Reads (refusal_of file.now (any_field at size)) (λ bytes. bytes.now ≡ bytes_at file.now at size) result }
     ensures size { IfOk result (λ bytes. length bytes.now ≡ size) }
 {
-    file.get(at..at + size as usize).ok_or(truncated(file))
+    match file.get(at..at + size as usize) {
+        Some(bytes) => Ok(bytes),
+        None => Err(truncated(file)),
+    }
 }
 
 pub fn byte_field(file: &[u8], at: usize) -> Result<u8, ImageError>
-    requires { length file.now ≤ 2 ^ 30 }
+    requires { at < 2 ^ 31 }
     ensures read { Reads (refusal_of file.now (any_field at 1)) (λ n. n ≡ slice_index file.now at) result }
 {
-    file.get(at).copied().ok_or(truncated(file))
+    match file.get(at) {
+        Some(byte) => Ok(*byte),
+        None => Err(truncated(file)),
+    }
 }
 
 pub fn u32_field(file: &[u8], at: usize) -> Result<u32, ImageError>
-    requires { length file.now ≤ 2 ^ 30 }
+    requires { at < 2 ^ 31 }
     ensures read { Reads (refusal_of file.now (any_field at 4)) (λ n. n ≡ u32_at file.now at) result }
 {
-    field_u32(file, at).ok_or(truncated(file))
+    match field_u32(file, at) {
+        Some(number) => Ok(number),
+        None => Err(truncated(file)),
+    }
 }
 
 // A byte that may have the values from 0 to `most`.
 pub fn byte_up_to(file: &[u8], at: usize, most: u8) -> Result<u8, ImageError>
-    requires small { length file.now ≤ 2 ^ 30 }
-    requires near { at < 2 ^ 32 }
+    requires { at < 2 ^ 31 }
     ensures read { Reads (refusal_of file.now (tested_field at 1 (nat_le (slice_index file.now at) most))) (λ n. (n ≡ slice_index file.now at) × (n ≤ most)) result }
 {
     let byte = byte_field(file, at)?;
@@ -62,13 +69,22 @@ pub fn byte_up_to(file: &[u8], at: usize, most: u8) -> Result<u8, ImageError>
     Ok(byte)
 }
 
+fn u16_field(file: &[u8], at: usize) -> Result<u16, ImageError>
+    requires { at < 2 ^ 31 }
+    ensures read { Reads (refusal_of file.now (any_field at 2)) (λ n. n ≡ u16_at file.now at) result }
+{
+    match field_u16(file, at) {
+        Some(number) => Ok(number),
+        None => Err(truncated(file)),
+    }
+}
+
 // A number of two bytes that may have the values from 0 to `most`.
 pub fn u16_up_to(file: &[u8], at: usize, most: u16) -> Result<u16, ImageError>
-    requires small { length file.now ≤ 2 ^ 30 }
-    requires near { at < 2 ^ 32 }
+    requires { at < 2 ^ 31 }
     ensures read { Reads (refusal_of file.now (tested_field at 2 (nat_le (u16_at file.now at) most))) (λ n. (n ≡ u16_at file.now at) × (n ≤ most)) result }
 {
-    let number = field_u16(file, at).ok_or(truncated(file))?;
+    let number = u16_field(file, at)?;
     check(number <= most, at)?;
     Ok(number)
 }

@@ -1,4 +1,4 @@
-ghost use Rattle.std.specs.Prelude.{◌≡◌, ◌≤◌, ◌^◌, length, slice_index, nat_le};
+ghost use Rattle.std.specs.Prelude.{◌≡◌, slice_index, nat_le};
 ghost use Rattle.nor_cell.specs.Wiring.{is_wiring};
 ghost use Rattle.nor_image.specs.Image.{magic_field, tested_field, refusal_of, first_refusal, header_fields, is_width, width_of, device_of, device_of_code, lanes_of_file};
 ghost use Rattle.nor_image.specs.Reading.{Reads, IsHeader};
@@ -7,7 +7,7 @@ use crate::ImageError;
 use crate::fields::{byte_field, byte_up_to, bytes_field, check};
 use nor_cell::{Device, Geometry, make_geometry};
 
-const MAGIC: &[u8; 8] = b"NORBANK1";
+pub const MAGIC: &[u8; 8] = b"NORBANK1";
 
 /// What the header says: the width in bytes, the lanes and the device.
 #[derive(Clone, Copy)]
@@ -17,7 +17,6 @@ pub struct Header {
 }
 
 fn read_magic(file: &[u8]) -> Result<(), ImageError>
-    requires { length file.now ≤ 2 ^ 30 }
     ensures { Reads (refusal_of file.now (magic_field file.now)) (λ _. Unit {0}) result }
 {
     bytes_field(file, 0, 8)?;
@@ -29,7 +28,6 @@ fn read_magic(file: &[u8]) -> Result<(), ImageError>
 }
 
 fn read_width(file: &[u8]) -> Result<u8, ImageError>
-    requires { length file.now ≤ 2 ^ 30 }
     ensures { Reads (refusal_of file.now (tested_field 8 1 (is_width (width_of file.now)))) (λ width. width ≡ width_of file.now) result }
 {
     let width = byte_field(file, 8)?;
@@ -48,7 +46,6 @@ fn device_of_code(code: u8) -> Device
 }
 
 fn read_device(file: &[u8]) -> Result<Device, ImageError>
-    requires { length file.now ≤ 2 ^ 30 }
     ensures { Reads (refusal_of file.now (tested_field 9 1 (nat_le (slice_index file.now 9) 2))) (λ device. device ≡ device_of file.now) result }
 {
     let code = byte_up_to(file, 9, 2)?;
@@ -57,7 +54,6 @@ fn read_device(file: &[u8]) -> Result<Device, ImageError>
 
 // The lanes, which have to fill the width.
 fn read_geometry(file: &[u8], width: u8, device: Device) -> Result<Geometry, ImageError>
-    requires small { length file.now ≤ 2 ^ 30 }
     requires width { width ≡ width_of file.now }
     requires device { device ≡ device_of file.now }
     ensures { Reads (refusal_of file.now (tested_field 10 1 (is_wiring (width_of file.now) (lanes_of_file file.now) (device_of file.now)))) (λ g. g ≡ record { lanes = lanes_of_file file.now; device = device_of file.now }) result }
@@ -67,7 +63,6 @@ fn read_geometry(file: &[u8], width: u8, device: Device) -> Result<Geometry, Ima
 }
 
 pub fn read_header(file: &[u8]) -> Result<Header, ImageError>
-    requires { length file.now ≤ 2 ^ 30 }
     ensures { Reads (first_refusal file.now (header_fields file.now)) (IsHeader file.now) result }
 {
     read_magic(file)?;

@@ -26,14 +26,25 @@
 //! aren't stored: a bank that is loaded was just powered on.
 //!
 //! [`read_image`] answers such a bank exactly where the file is well formed, and else the first
-//! refusal, field by field, at its place. `specs/Image.antt` has the format as the list of a file's
-//! fields, each with its place, its length and what its value is refused with, and the chip that a
-//! record stores. Each step of the reader is proved against the fields that it reads. Chips of set
-//! 0002 aren't built yet: their files are read to the end and then answered `NotBuilt`.
+//! refusal, field by field, at its place. [`write_image`] and [`fill_image`] give the file of a bank,
+//! and reading that file gives the bank again, just powered on. The file of a bank that was read is
+//! the one that it was read from, byte by byte.
 //!
-//! It stands on nor_cell and nor_intel for the chips, nor_bus for the bank, and nor_io for fields.
+//! `specs/Image.antt` has the format as the list of a file's fields, each with its place, its length
+//! and what its value is refused with, and the chip that a record stores. `specs/Written.antt` has
+//! the file of a bank, byte by byte. That both agree is proved in `proofs/Storing.antt` and
+//! `proofs/Unique.antt`; the clauses of the three calls say it. Each step of the reader is proved
+//! against the fields that it reads, each step of the writer against the bytes that it puts.
+//!
+//! A [`Loaded`] bank is one of eight kinds, by its chips' set and the width of its bus. What is to
+//! be done with any of them is written once, over the bus's word and the chip, and called by
+//! [`with_bank!`].
+//!
+//! It stands on nor_cell, nor_intel and nor_amd for the chips, nor_query and nor_region for their
+//! blocks, nor_bus for the bank, and nor_io for fields.
 #![tactic(auto)]
 
+mod blocks;
 mod error;
 mod fields;
 mod header;
@@ -41,10 +52,12 @@ mod loaded;
 mod read;
 mod record;
 mod size;
+mod write;
 
 pub use error::ImageError;
 pub use loaded::Loaded;
 pub use read::read_image;
+pub use write::{fill_image, write_image};
 
 #[cfg(test)]
 mod tests;

@@ -1,3 +1,4 @@
+use nor_amd::Amd;
 use nor_bus::SimBank;
 use nor_intel::Intel;
 
@@ -8,4 +9,25 @@ pub enum Loaded {
     Intel16(SimBank<u16, Intel>),
     Intel32(SimBank<u32, Intel>),
     Intel64(SimBank<u64, Intel>),
+    Amd8(SimBank<u8, Amd>),
+    Amd16(SimBank<u16, Amd>),
+    Amd32(SimBank<u32, Amd>),
+    Amd64(SimBank<u64, Amd>),
+}
+
+/// Does one thing with the bank in a `Loaded`, whichever it is: `with_bank!(loaded, bank => f(bank))`.
+#[macro_export]
+macro_rules! with_bank {
+    ($loaded:expr, $bank:ident => $body:expr) => {
+        match $loaded {
+            $crate::Loaded::Intel8($bank) => $body,
+            $crate::Loaded::Intel16($bank) => $body,
+            $crate::Loaded::Intel32($bank) => $body,
+            $crate::Loaded::Intel64($bank) => $body,
+            $crate::Loaded::Amd8($bank) => $body,
+            $crate::Loaded::Amd16($bank) => $body,
+            $crate::Loaded::Amd32($bank) => $body,
+            $crate::Loaded::Amd64($bank) => $body,
+        }
+    };
 }

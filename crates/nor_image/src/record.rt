@@ -2,10 +2,11 @@ ghost use Rattle.std.specs.Prelude.{◌≡◌, ◌<◌, ◌≤◌, ◌+◌, ◌^
 ghost use Rattle.nor_cell.specs.Bits.{AreBytes};
 ghost use Rattle.nor_cell.specs.Ranges.{is_chip_size, is_ascending_below, begin_units};
 ghost use Rattle.nor_io.specs.Fields.{u32_at};
-ghost use Rattle.nor_image.specs.Image.{any_field, bytes_at, weak_field, weak_field_at, least_weak, is_weak_place, number_fields, table_field, size_field, weak_fields, record_fields, refusal_of, first_refusal, device_of, table_in, size_in, weak_in, weak_count};
+ghost use Rattle.nor_image.specs.Image.{any_field, bytes_at, is_size_by, weak_field, weak_field_at, least_weak, is_weak_place, number_fields, table_field, size_field, weak_fields, record_fields, refusal_of, first_refusal, device_of, table_in, size_in, weak_in, weak_count};
 ghost use Rattle.nor_image.specs.Reading.{Reads, MayRead, AreNumbers, AreStored};
 
 use crate::ImageError;
+use crate::blocks::blocks_of_table;
 use crate::fields::{byte_up_to, bytes_field, check, u16_up_to, u32_field};
 use crate::size::is_size_by;
 use nor_bus::lane_bytes;
@@ -16,8 +17,8 @@ use std::alloc::Global;
 /// Where the record of lane 0 begins.
 pub const FIRST_RECORD: usize = 12;
 
-// Where a record has its query table.
-const TABLE: usize = 20;
+/// Where a record has its query table, behind the numbers that it says first.
+pub const TABLE: usize = 20;
 
 // Where a record has its chip's size.
 const SIZE: usize = 532;
@@ -38,8 +39,7 @@ pub struct Numbers {
 }
 
 fn read_numbers(file: &[u8], at: usize) -> Result<Numbers, ImageError>
-    requires small { length file.now ≤ 2 ^ 30 }
-    requires within { at ≤ length file.now }
+    requires near { at ≤ 2 ^ 30 }
     ensures { Reads (first_refusal file.now (number_fields file.now at)) (AreNumbers file.now at) result }
 {
     Ok(Numbers {
@@ -54,8 +54,7 @@ fn read_numbers(file: &[u8], at: usize) -> Result<Numbers, ImageError>
 }
 
 fn read_table(file: &[u8], at: usize) -> Result<[u8; 512], ImageError>
-    requires small { length file.now ≤ 2 ^ 30 }
-    requires within { at ≤ length file.now }
+    requires near { at ≤ 2 ^ 30 }
     ensures { Reads (refusal_of file.now (table_field at)) (λ table. table ≡ table_in file.now at) result }
 {
     let mut table = [0; 512];
@@ -65,12 +64,12 @@ fn read_table(file: &[u8], at: usize) -> Result<[u8; 512], ImageError>
 
 // The size of a lane's chip, which is that of lane 0's chip.
 fn read_size(file: &[u8], lane: u8, at: usize, table: &[u8; 512]) -> Result<u32, ImageError>
-    requires small { length file.now ≤ 2 ^ 30 }
+    requires near { at ≤ 2 ^ 30 }
     requires behind_header { 12 ≤ at }
-    requires within { at ≤ length file.now }
     requires table { table.now ≡ table_in file.now at }
     ensures read { Reads (refusal_of file.now (size_field file.now lane at)) (λ size. size ≡ size_in file.now at) result }
     ensures sized { IfOk result (λ size. IsTrue (is_chip_size size)) }
+    ensures fits { IfOk result (λ size. IsTrue (is_size_by table.now size)) }
     ensures same { IfOk result (λ size. size ≡ size_in file.now 12) }
 {
     let size = u32_field(file, at + SIZE)?;
@@ -99,8 +98,7 @@ fn read_weak_place(
     size: u32,
     least: u32,
 ) -> Result<u32, ImageError>
-    requires small { length file.now ≤ 2 ^ 30 }
-    requires within { at ≤ length file.now }
+    requires near { at ≤ 2 ^ 30 }
     requires device { device ≡ device_of file.now }
     requires size { size ≡ size_in file.now at }
     requires least { least ≡ least_weak file.now at k }
@@ -121,8 +119,7 @@ fn read_weak(
     count: u16,
     size: u32,
 ) -> Result<Vec<u32>, ImageError>
-    requires small { length file.now ≤ 2 ^ 30 }
-    requires within { at ≤ length file.now }
+    requires near { at ≤ 2 ^ 30 }
     requires device { device ≡ device_of file.now }
     requires size { size ≡ size_in file.now at }
     ensures read { MayRead (first_refusal file.now (weak_fields file.now at count)) (λ weak. weak.items ≡ weak_in file.now at count) result }
@@ -142,12 +139,10 @@ fn read_weak(
 
 // The cells of a chip of so many bytes.
 fn read_cells(alloc: Global, file: &[u8], at: usize, size: u32) -> Result<Vec<u8>, ImageError>
-    requires small { length file.now ≤ 2 ^ 30 }
-    requires near { at < 2 ^ 32 }
+    requires near { at + size < 2 ^ 32 }
     ensures read { MayRead (refusal_of file.now (any_field at size)) (λ cells. cells.items ≡ bytes_at file.now at size) result }
     ensures size { IfOk result (λ cells. length cells.items ≡ size) }
     ensures bytes { IfOk result (λ cells. AreBytes cells.items) }
-    ensures whole { IfOk result (λ cells. at + size ≤ length file.now) }
 {
     let bytes = bytes_field(file, at, size)?;
     Ok(bytes.to_vec(alloc)?)
@@ -161,9 +156,8 @@ pub fn read_record(
     lane: u8,
     at: usize,
 ) -> Result<Cells, ImageError>
-    requires small { length file.now ≤ 2 ^ 30 }
+    requires near { at ≤ 2 ^ 30 }
     requires behind_header { 12 ≤ at }
-    requires within { at ≤ length file.now }
     requires device { device ≡ device_of file.now }
     ensures { MayRead (first_refusal file.now (record_fields file.now lane at)) (AreStored file.now device at) result }
 {
@@ -173,6 +167,7 @@ pub fn read_record(
     let weak = read_weak(alloc, file, device, at, numbers.weak_count, size)?;
     let cells_at = at + FIXED_PART + 4 * usize::from(numbers.weak_count);
     let bytes = read_cells(alloc, file, cells_at, size)?;
+    let blocks = blocks_of_table(alloc, &table, size)?;
     let parts = CellParts {
         device,
         table,
@@ -184,7 +179,7 @@ pub fn read_record(
         pace_suspend: numbers.pace_suspend,
         suspends: numbers.suspends,
         erases: numbers.erases,
-        blocks: Vec::new(alloc),
+        blocks,
     };
     Ok(make_cells(alloc, parts)?)
 }

@@ -1,2 +1,9 @@
 pub mod Asked
+pub mod Judged
+pub mod Lanes
+pub mod Looking
+pub mod OwnTables
+pub mod OwnWiring
+pub mod Searching
 pub mod Shown
+pub mod TablesRead

@@ -1,6 +1,7 @@
 -- What several readings of the query table show together.
-use Rattle.std.proofs.Common.{slice_index_or, suc, ◌≡◌, ◌<◌, ◌+◌, ◌*◌, ◌&&◌, ℕ, List, length, refl, sym, ap, subst, ◌∙◌, arith, Bool, true, false, drop, ◌∷◌, Some, cond}
+use Rattle.std.proofs.Common.{slice_index_or, All, IsTrue, suc, ◌≡◌, ◌<◌, ◌≤◌, ◌+◌, ◌*◌, ◌&&◌, ℕ, List, length, refl, sym, ap, subst, ◌∙◌, arith, Bool, true, false, drop, ◌∷◌, Some, cond}
 use Rattle.std.specs.List.{find}
+use Rattle.std.proofs.lemmas.List.Elements.{All-get_or}
 use Rattle.std.proofs.Math.Seq.{drop-cons}
 use Rattle.nor_cell.specs.Bits.{unit_bytes, unit_len}
 use Rattle.nor_cell.specs.Chip.{ChipState, Part, Query}
@@ -14,8 +15,11 @@ use Rattle.nor_bus.specs.Driven.{EachLane, AllLanes, Went}
 use Rattle.nor_bus.specs.Words.{query_word}
 use Rattle.nor_bus.proofs.Words.{same_chips, same_words}
 use Rattle.nor_bus.proofs.Driving.{went_then, went_none}
+use Rattle.nor_cell.specs.Wiring.{is_wiring}
 use Rattle.nor_lane.specs.Candidates.{candidates_of}
+use Rattle.nor_lane.proofs.Geometries.{candidates_fit}
 use Rattle.nor_probe.specs.Asking.{Resets, Asks, ShowsQuery, Stays, Rests}
+use Rattle.nor_probe.specs.Counted.{Counted}
 use Rattle.nor_probe.specs.Found.{lanes_read, query_address, shows_at, shows_qry, found_geometry}
 
 -- ---- chips that stay as they are
@@ -27,7 +31,8 @@ stay_then s m t first second = λ is. let e = first is in second (subst ShowsQue
 pub same_lanes : (a b : BusState) → KeepsLanes a b → EachLane Stays a b → AllLanes ShowsQuery a → b.lanes ≡ a.lanes
 same_lanes a b kept stays shows = same_chips a.lanes b.lanes kept.count (λ c below. stays c below (shows c below))
 
-moved : (a b : BusState) → b.lanes ≡ a.lanes → AllLanes ShowsQuery a → AllLanes ShowsQuery b
+-- they go on showing their tables
+pub moved : (a b : BusState) → b.lanes ≡ a.lanes → AllLanes ShowsQuery a → AllLanes ShowsQuery b
 moved a b same shows =
     let there : (c : ℕ) → c < length b.lanes → ShowsQuery (chip_at b.lanes c) = subst (λ (ls : List ChipState). (c : ℕ) → c < length ls → ShowsQuery (chip_at ls c)) (sym same) shows in there
 
@@ -50,10 +55,14 @@ all_letters g old a b q r y k l first second one two three shows =
 pub asked_shows : (s m : ChipState) → Asks s m → IsResting s → ShowsQuery m
 asked_shows s m asks is = subst ShowsQuery (sym (asks is)) (record { mode = refl; job = is.job; fault = refl })
 
-pub asked_rests : (s m t : ChipState) → Asks s m → Stays m t → Rests s t
-asked_rests s m t asks stays = λ is.
-    let same : t ≡ record (reset s) { mode = Query } = stays (asked_shows s m asks is) ∙ asks is in
-    (subst IsResting (sym same) (query_resting s is), ap reset same)
+pub asked_stays : (s m t : ChipState) → Asks s m → Stays m t → Asks s t
+asked_stays s m t asks stays = λ is. stays (asked_shows s m asks is) ∙ asks is
+
+pub asked_rests : (s t : ChipState) → Asks s t → Rests s t
+asked_rests s t asks = λ is. (subst IsResting (sym (asks is)) (query_resting s is), ap reset (asks is))
+
+pub rests_asked : (s m t : ChipState) → Rests s m → Asks m t → Asks s t
+rests_asked s m t first asks = λ is. let x = first is in asks x.0 ∙ ap (λ (r : ChipState). record r { mode = Query }) x.1
 
 pub rests_then : (s m t : ChipState) → Rests s m → Rests m t → Rests s t
 rests_then s m t first second = λ is. let x = first is in let y = second x.0 in (y.0, y.1 ∙ x.1)
@@ -66,7 +75,7 @@ rests_reset s m t first last = λ is. let x = first is in last x.0 ∙ x.1
 
 -- ---- what a wiring shows depends on what the chips are alone
 
-word_kept : (a b : BusState) (u : ℕ) → KeepsLanes a b → query_word b.lanes u ≡ query_word a.lanes u
+pub word_kept : (a b : BusState) (u : ℕ) → KeepsLanes a b → query_word b.lanes u ≡ query_word a.lanes u
 word_kept a b u kept = same_words (λ s. query_at s.part u) (λ s. query_at s.part u) a.lanes b.lanes kept.count
     (λ c below. ap (λ (p : Part). unit_bytes p.device (query_at p u)) (kept.each c below).part)
 
@@ -83,7 +92,7 @@ shows_kept g a b kept =
 
 -- The first i wirings were tried, and none of them showed.
 pub record Tried (width i : ℕ) (old now : BusState) : Type 0 where
-  pub went : Went 0 (7 * i) old now
+  pub went : Went (7 * i) (7 * i) old now
   pub rests : EachLane Rests old now
   pub left : AllLanes IsResting old → found_geometry width old.lanes ≡ find (λ (g : Geometry). shows_qry g old.lanes) (drop i (candidates_of width))
 
@@ -96,6 +105,9 @@ resting_now old now kept rests is = λ c below. let there = subst (λ (n : ℕ).
 next_rests : (old now new : BusState) → KeepsLanes old now → EachLane Rests old now → EachLane Rests now new → EachLane Rests old new
 next_rests old now new kept first second = λ c below. rests_then (lane old c) (lane now c) (lane new c) (first c below) (second c (subst (λ (n : ℕ). c < n) (sym kept.count) below))
 
+next_asks : (old now new : BusState) → KeepsLanes old now → EachLane Rests old now → EachLane Asks now new → EachLane Asks old new
+next_asks old now new kept first second = λ c below. rests_asked (lane old c) (lane now c) (lane new c) (first c below) (second c (subst (λ (n : ℕ). c < n) (sym kept.count) below))
+
 -- what this wiring shows
 this_shows : (g : Geometry) (old now : BusState) (shows : Bool) → KeepsLanes old now → EachLane Rests old now → (AllLanes IsResting now → shows ≡ shows_qry g now.lanes)
     → AllLanes IsResting old → shows ≡ shows_qry g old.lanes
@@ -103,11 +115,11 @@ this_shows g old now shows kept rests answer is = answer (resting_now old now ke
 
 -- one more was tried, and didn't show
 pub tried_more : (width i : ℕ) (g : Geometry) (old now new : BusState) (shows : Bool) → Tried width i old now
-    → Went 7 7 now new → EachLane Rests now new → (AllLanes IsResting now → shows ≡ shows_qry g now.lanes)
+    → Went 7 7 now new → EachLane Asks now new → (AllLanes IsResting now → shows ≡ shows_qry g now.lanes)
     → drop i (candidates_of width) ≡ g ∷ drop (i + 1) (candidates_of width) → shows ≡ false → Tried width (i + 1) old new
-tried_more width i g old now new shows so went rests answer is hidden = record {
-  went = went_then 0 (7 * i) 7 7 0 (7 * (i + 1)) old now new (omega arith) (omega arith) so.went went;
-  rests = next_rests old now new so.went.kept so.rests rests;
+tried_more width i g old now new shows so went asks answer is hidden = record {
+  went = went_then (7 * i) (7 * i) 7 7 (7 * (i + 1)) (7 * (i + 1)) old now new (omega arith) (omega arith) so.went went;
+  rests = next_rests old now new so.went.kept so.rests (λ c below. asked_rests (lane now c) (lane new c) (asks c below));
   left = λ all.
       let p = λ (x : Geometry). shows_qry x old.lanes in
       let here : p g ≡ false = sym (this_shows g old now shows so.went.kept so.rests answer all) ∙ hidden in
@@ -123,9 +135,29 @@ tried_found width i g old now shows so answer is seen all =
     let here : p g ≡ true = sym (this_shows g old now shows so.went.kept so.rests answer all) ∙ seen in
     sym (so.left all ∙ (ap (find p) is ∙ ap (λ (b : Bool). cond b (Some g) (find p (drop (i + 1) (candidates_of width)))) here))
 
+-- one more was tried, and the chips show their tables
+pub tried_asks : (width i : ℕ) (old now new : BusState) → Tried width i old now → EachLane Asks now new → EachLane Asks old new
+tried_asks width i old now new so asks = next_asks old now new so.went.kept so.rests asks
+
+-- so many cycles
+pub tried_counted : (width i : ℕ) (old now : BusState) → Tried width i old now → i ≤ 3 → Counted 21 old now
+tried_counted width i old now so few = record { cycles = 7 * i; few = omega arith; went = so.went }
+
+-- and seven more
+pub tried_and_seven : (width i : ℕ) (old now new : BusState) → Tried width i old now → Went 7 7 now new → i < 3 → Counted 21 old new
+tried_and_seven width i old now new so went few =
+    record { cycles = 7 * i + 7; few = omega arith; went = went_then (7 * i) (7 * i) 7 7 (7 * i + 7) (7 * i + 7) old now new (omega arith) (omega arith) so.went went }
+
 -- the wiring that is tried next
 pub next_wiring : (width i : ℕ) (xs : List Geometry) (d : Geometry) → xs ≡ candidates_of width → i < length xs
     → drop i (candidates_of width) ≡ slice_index_or xs i d ∷ drop (i + 1) (candidates_of width)
 next_wiring width i xs d is below =
     let next : drop (suc i) xs ≡ drop (i + 1) xs = let e : suc i ≡ i + 1 = omega arith in ap (λ (n : ℕ). drop n xs) e in
     subst (λ (ys : List Geometry). drop i ys ≡ slice_index_or xs i d ∷ drop (i + 1) ys) is (drop-cons xs i d below ∙ ap (λ (ys : List Geometry). slice_index_or xs i d ∷ ys) next)
+
+-- it is a wiring of the word
+pub candidate_fits : (width i : ℕ) (xs : List Geometry) (d : Geometry) → xs ≡ candidates_of width → i < length xs
+    → let g = slice_index_or xs i d in IsTrue (is_wiring width g.lanes g.device)
+candidate_fits width i xs d is below =
+    let fits = λ (g : Geometry). IsTrue (is_wiring width g.lanes g.device) in
+    All-get_or fits xs i d below (subst (λ (ys : List Geometry). All fits ys) (sym is) (candidates_fit width))

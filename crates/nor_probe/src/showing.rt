@@ -25,14 +25,14 @@ fn lanes_read<W: BusWord>(word: W, g: Geometry, letter: u8) -> bool
 }
 
 /// The bus address of a word of the query table.
-fn query_address(device: Device, n: u32) -> u32
+pub fn query_address(device: Device, n: u16) -> u32
     requires { n < 512 }
     ensures value { result ≡ query_address_lem device n }
     ensures low { result < 1024 }
 {
     match device {
-        Device::X8 | Device::X16 => n,
-        Device::X16Byte => 2 * n,
+        Device::X8 | Device::X16 => u32::from(n),
+        Device::X16Byte => 2 * u32::from(n),
     }
 }
 
@@ -40,7 +40,7 @@ fn query_address(device: Device, n: u32) -> u32
 fn shows_letter<W: BusWord, B: Bus<W>>(
     bus: &mut B,
     g: Geometry,
-    n: u32,
+    n: u16,
     letter: u8,
 ) -> Result<bool, Off>
     requires wiring { IsTrue (is_wiring W.WIDTH g.lanes g.device) }

@@ -1,19 +1,43 @@
 //! Bank files, and the bytes of the banks that they stand for.
 
-use nor_cell::{Device, Geometry};
+use nor_cell::{Device, Geometry, Set};
 use nor_image::{Loaded, read_image};
 use std::alloc::{AllocError, Global};
 use std::process::Abort;
 use std::test::Fail;
 
 /// How many bytes each chip has.
-pub const CHIP_SIZE: u16 = 4096;
+pub const CHIP_SIZE: u16 = 8192;
 
-/// What a query table begins with.
-pub const QRY: [u8; 3] = [0x51, 0x52, 0x59];
+// The bytes of a query table from 0x10 on, and those of its extended table of either set: eight
+// blocks of 1 KiB on sixteen wires, with a write buffer, suspend and locks.
+const HEAD: [u8; 33] = [
+    0x51, 0x52, 0x59, 0x01, 0x00, 0x31, 0x00, 0x00, 0x00, 0x00, 0x00, 0x27, 0x36, 0x00, 0x00, 0x04,
+    0x06, 0x0a, 0x00, 0x02, 0x02, 0x02, 0x00, 0x0d, 0x01, 0x00, 0x05, 0x00, 0x01, 0x07, 0x00, 0x04,
+    0x00,
+];
 
-/// The same without its first letter.
-pub const NO_Q: [u8; 3] = [0x00, 0x52, 0x59];
+const INTEL: [u8; 16] = [
+    0x50, 0x52, 0x49, 0x31, 0x31, 0x22, 0x00, 0x00, 0x00, 0x01, 0, 0, 0, 0, 0, 0,
+];
+
+const AMD: [u8; 16] = [
+    0x50, 0x52, 0x49, 0x31, 0x33, 0x00, 0x02, 0x01, 0x00, 0x08, 0, 0, 0, 0, 0, 2,
+];
+
+/// The query table of such a chip of a set.
+pub fn table(set: Set) -> [u8; 512] {
+    let mut table = [0; 512];
+    table[0x10..0x31].copy_from_slice(&HEAD);
+    match set {
+        Set::Intel => table[0x31..0x41].copy_from_slice(&INTEL),
+        Set::Amd => {
+            table[0x13] = 2;
+            table[0x31..0x41].copy_from_slice(&AMD);
+        }
+    }
+    table
+}
 
 /// A bus word of `width` bytes, and how the chips lie on it.
 #[derive(Clone, Copy)]
@@ -22,10 +46,19 @@ pub struct Wiring {
     pub geometry: Geometry,
 }
 
-// Byte `place` of the chip of a lane.
+// Byte `place` of the chip of a lane. A chip that shows its array where its query table is asked for
+// would answer to some wiring: its cells have `QRY` at the addresses of every device.
 fn cell(lane: u8, place: u16) -> u8 {
-    let low = (place % 256) as u8;
-    low.wrapping_add(lane.wrapping_mul(0x40))
+    match place {
+        0x10 | 0x20 => b'Q',
+        0x11 | 0x22 => b'R',
+        0x12 | 0x24 => b'Y',
+        0x21 | 0x23 | 0x25 => 0,
+        _ => {
+            let low = (place % 256) as u8;
+            low.wrapping_add(lane.wrapping_mul(0x40))
+        }
+    }
 }
 
 fn push_zeros(file: &mut Vec<u8>, count: u16) -> Result<(), AllocError> {
@@ -35,12 +68,10 @@ fn push_zeros(file: &mut Vec<u8>, count: u16) -> Result<(), AllocError> {
     Ok(())
 }
 
-// A chip of set 0001 with no blocks, no weak places and no pace.
-fn push_record(file: &mut Vec<u8>, lane: u8, letters: [u8; 3]) -> Result<(), AllocError> {
-    push_zeros(file, 20 + 0x10)?;
-    file.extend_from_slice(&letters)?;
-    file.push(1)?;
-    push_zeros(file, 512 - 0x14)?;
+// A chip with no weak places and no pace.
+fn push_record(file: &mut Vec<u8>, lane: u8, table: &[u8; 512]) -> Result<(), AllocError> {
+    push_zeros(file, 20)?;
+    file.extend_from_slice(table)?;
     file.extend_from_slice(&u32::from(CHIP_SIZE).to_le_bytes())?;
     for place in 0..CHIP_SIZE {
         file.push(cell(lane, place))?;
@@ -56,28 +87,39 @@ fn device_code(device: Device) -> u8 {
     }
 }
 
-fn bank_file(alloc: Global, wiring: Wiring, letters: [u8; 3]) -> Result<Vec<u8>, AllocError> {
+fn bank_file(
+    alloc: Global,
+    wiring: Wiring,
+    tables: &[[u8; 512]; 4],
+) -> Result<Vec<u8>, AllocError> {
     let mut file = Vec::new(alloc);
     let Geometry { lanes, device } = wiring.geometry;
     file.extend_from_slice(b"NORBANK1")?;
     file.extend_from_slice(&[wiring.width, device_code(device), lanes, 0])?;
     for lane in 0..lanes {
-        push_record(&mut file, lane, letters)?;
+        if let Some(table) = tables.get(usize::from(lane)) {
+            push_record(&mut file, lane, table)?;
+        }
     }
     Ok(file)
 }
 
-/// A bank of such chips, just powered on, whose query tables begin with these letters.
-pub fn load(
+/// A bank of such chips, just powered on, whose lanes have these query tables.
+pub fn load_tables(
     rt: &impl Abort,
     alloc: Global,
     wiring: Wiring,
-    letters: [u8; 3],
+    tables: &[[u8; 512]; 4],
 ) -> Result<Loaded, Fail> {
-    let file = bank_file(alloc, wiring, letters)?;
+    let file = bank_file(alloc, wiring, tables)?;
     assert!(rt; file.len() <= 1 << 30);
     let loaded = read_image(alloc, &file)?;
     Ok(loaded)
+}
+
+/// The same, where each lane has the [`table`] of a set.
+pub fn load(rt: &impl Abort, alloc: Global, wiring: Wiring, set: Set) -> Result<Loaded, Fail> {
+    load_tables(rt, alloc, wiring, &[table(set); 4])
 }
 
 // The bytes of a device word of every chip in turn.

@@ -1,12 +1,13 @@
-//! Power goes where it was told to, comes back, and no cell has changed.
+//! Power goes where it was told to and comes back. No cell has changed, but what was under way.
 
-use crate::banks::{QRY, Wiring, first_bytes, load};
+use crate::banks::{Wiring, first_bytes, load};
 use nor_bank::read_range;
 use nor_bus::{Bus, Off, SimBank, read_word, write_code, write_word};
 use nor_cell::Device::X8;
-use nor_cell::{Chip, Geometry};
+use nor_cell::{Chip, Geometry, Set};
 use nor_image::Loaded;
 use nor_intel::Intel;
+use nor_probe::{ProbeError, probe};
 use std::alloc::Global;
 use std::process::Abort;
 use std::test::Fail;
@@ -22,7 +23,7 @@ const TWO_BYTE_WIDE: Wiring = Wiring {
 };
 
 fn two_byte_bank(rt: &impl Abort, alloc: Global) -> Result<Bank, Fail> {
-    match load(rt, alloc, TWO_BYTE_WIDE, QRY)? {
+    match load(rt, alloc, TWO_BYTE_WIDE, Set::Intel)? {
         Loaded::Intel16(bank) => Ok(bank),
         _ => Err("no bank of two-byte words")?,
     }
@@ -70,7 +71,7 @@ fn has_first_chip(rt: &impl Abort, bank: &Bank, units: u32) {
 #[test]
 fn a_bank_just_loaded_has_power_and_its_chips(rt: HostRuntime) -> Result<(), Fail> {
     let bank = two_byte_bank(&rt, rt.alloc())?;
-    has_first_chip(&rt, &bank, 4096);
+    has_first_chip(&rt, &bank, 8192);
     assert!(rt; bank.is_on());
     assert_eq!(rt; bank.cycles(), 0);
     assert_eq!(rt; bank.failed(), 0);
@@ -99,5 +100,55 @@ fn a_second_arm_replaces_the_first(rt: HostRuntime) -> Result<(), Fail> {
         goes_off_after(&rt, &mut bank, second);
         comes_back(&rt, &mut bank, &bytes);
     }
+    Ok(())
+}
+
+// Where a word is programmed below, and what it holds: byte 0x3F of each chip.
+const AT: u32 = 0x3F;
+
+// The block is unlocked and the word is programmed with zeros, and power goes with a mask before the
+// chips are read. What is left of the word after power-on is the answer.
+fn cut_in_a_program(rt: &impl Abort, bank: &mut Bank, mask: u8) -> Result<u16, Off> {
+    write_code::<u16, Bank>(bank, AT, 0x60)?;
+    write_code::<u16, Bank>(bank, AT, 0xD0)?;
+    write_code::<u16, Bank>(bank, AT, 0x40)?;
+    write_word::<u16, Bank>(bank, AT, 0)?;
+    assert!(rt; bank.is_on());
+    bank.arm(0, mask);
+    assert_eq!(rt; read_word::<u16, Bank>(bank, AT), Err(Off));
+    assert!(rt; !bank.is_on());
+    bank.power_on();
+    read_word::<u16, Bank>(bank, AT)
+}
+
+#[test]
+fn a_cut_leaves_what_the_armed_mask_says(rt: HostRuntime) -> Result<(), Fail> {
+    for (mask, left) in [(0xFF, 0x7F3F), (0x0F, 0x0F0F), (0x30, 0x3030), (0, 0)] {
+        let mut bank = two_byte_bank(&rt, rt.alloc())?;
+        assert_eq!(rt; cut_in_a_program(&rt, &mut bank, mask), Ok(left));
+    }
+    Ok(())
+}
+
+#[test]
+fn power_that_goes_while_probing_is_told(rt: HostRuntime) -> Result<(), Fail> {
+    for after in [0, 4, 7, 8, 500, 501] {
+        let mut bank = two_byte_bank(&rt, rt.alloc())?;
+        arm(&rt, &mut bank, after);
+        assert_eq!(rt; probe::<u16, Bank>(&mut bank).err(), Some(ProbeError::Off));
+        assert_eq!(rt; bank.cycles(), u64::from(after));
+        assert_eq!(rt; bank.failed(), 1);
+    }
+    Ok(())
+}
+
+#[test]
+fn probing_makes_no_cycle_behind_its_last(rt: HostRuntime) -> Result<(), Fail> {
+    let mut bank = two_byte_bank(&rt, rt.alloc())?;
+    arm(&rt, &mut bank, 502);
+    assert!(rt; probe::<u16, Bank>(&mut bank).is_ok());
+    assert_eq!(rt; bank.cycles(), 502);
+    assert!(rt; bank.is_on());
+    assert_eq!(rt; read_word::<u16, Bank>(&mut bank, 0), Err(Off));
     Ok(())
 }

@@ -1,28 +1,30 @@
 //! Every wiring is found, and its bank can be read.
 
-use crate::banks::{NO_Q, QRY, Wiring, first_bytes, load};
+use crate::banks::{Wiring, first_bytes, load};
 use nor_bank::read_range;
-use nor_bus::Bus;
+use nor_bus::{Bus, SimBank};
 use nor_cell::Device::{self, X8, X16, X16Byte};
-use nor_cell::Geometry;
-use nor_image::Loaded;
-use nor_probe::{FindError, find_geometry};
+use nor_cell::{Chip, Geometry, Set};
+use nor_image::with_bank;
+use nor_probe::probe;
 use nor_word::BusWord;
 use std::alloc::Global;
 use std::process::Abort;
 use std::test::Fail;
 
-// The width of the bus word, the lanes, their device, and how many bus words the range below meets.
-const WIRINGS: [(u8, u8, Device, u64); 9] = [
-    (1, 1, X8, 22),
-    (1, 1, X16Byte, 22),
-    (2, 2, X8, 12),
-    (2, 2, X16Byte, 12),
-    (2, 1, X16, 12),
-    (4, 4, X8, 6),
-    (4, 4, X16Byte, 6),
-    (4, 2, X16, 6),
-    (8, 4, X16, 4),
+// The width of the bus word, the lanes, their device, how many cycles probing makes, and how many bus
+// words the range below meets. Each wiring that is tried takes 7 cycles, the rest of the table 493, or
+// 501 in byte mode, and the last reset 2.
+const WIRINGS: [(u8, u8, Device, u64, u64); 9] = [
+    (1, 1, X8, 502, 22),
+    (1, 1, X16Byte, 517, 22),
+    (2, 2, X8, 502, 12),
+    (2, 2, X16Byte, 517, 12),
+    (2, 1, X16, 516, 12),
+    (4, 4, X8, 502, 6),
+    (4, 4, X16Byte, 517, 6),
+    (4, 2, X16, 516, 6),
+    (8, 4, X16, 502, 4),
 ];
 
 // A range that begins and ends in the middle of a bus word, where that has more than one byte.
@@ -30,12 +32,22 @@ const FROM: u32 = 0xFD;
 
 const LEN: usize = 22;
 
-// The wiring is found, or no wiring is, in at most 23 cycles.
-fn finds<W: BusWord, B: Bus<W>>(rt: &impl Abort, bus: &mut B, wanted: Result<Geometry, FindError>) {
+// The bank is found to be what it is, in so many cycles.
+fn finds<W: BusWord, B: Bus<W>>(
+    rt: &impl Abort,
+    bus: &mut B,
+    geometry: Geometry,
+    cycles: u64,
+) -> Result<(), Fail> {
     assert_eq!(rt; bus.cycles(), 0);
-    assert_eq!(rt; find_geometry::<W, B>(bus), wanted);
-    assert!(rt; bus.cycles() <= 23, "{} cycles", bus.cycles());
+    let found = probe::<W, B>(bus)?;
+    assert_eq!(rt; found.geometry, geometry);
+    assert_eq!(rt; (found.query.size_log, found.query.ext), (13, 0x31));
+    assert_eq!(rt; found.map.blocks(), 8);
+    assert_eq!(rt; found.map.size(), u32::from(geometry.lanes) * 8192);
+    assert_eq!(rt; bus.cycles(), cycles);
     assert_eq!(rt; bus.failed(), 0);
+    Ok(())
 }
 
 // The range has the bank's bytes, and took one cycle for each bus word.
@@ -55,45 +67,26 @@ fn reads<W: BusWord, B: Bus<W>>(
     Ok(())
 }
 
-fn tries<W: BusWord, B: Bus<W>>(
+fn tries<W: BusWord, C: Chip + Drop>(
     rt: &impl Abort,
     alloc: Global,
-    bus: &mut B,
+    bank: SimBank<W, C>,
     geometry: Geometry,
+    cycles: u64,
     words: u64,
 ) -> Result<(), Fail> {
-    finds::<W, B>(rt, bus, Ok(geometry));
-    reads::<W, B>(rt, alloc, bus, geometry, words)
+    let mut bank = bank;
+    finds::<W, SimBank<W, C>>(rt, &mut bank, geometry, cycles)?;
+    reads::<W, SimBank<W, C>>(rt, alloc, &mut bank, geometry, words)
 }
 
 #[test]
 fn each_wiring_is_found_and_read(rt: HostRuntime) -> Result<(), Fail> {
-    for (width, lanes, device, words) in WIRINGS {
-        let geometry = Geometry { lanes, device };
-        let wiring = Wiring { width, geometry };
-        match load(&rt, rt.alloc(), wiring, QRY)? {
-            Loaded::Intel8(mut bank) => tries(&rt, rt.alloc(), &mut bank, geometry, words)?,
-            Loaded::Intel16(mut bank) => tries(&rt, rt.alloc(), &mut bank, geometry, words)?,
-            Loaded::Intel32(mut bank) => tries(&rt, rt.alloc(), &mut bank, geometry, words)?,
-            Loaded::Intel64(mut bank) => tries(&rt, rt.alloc(), &mut bank, geometry, words)?,
-        }
-    }
-    Ok(())
-}
-
-#[test]
-fn a_table_without_q_is_no_answer(rt: HostRuntime) -> Result<(), Fail> {
-    let none = Err(FindError::NoAnswer);
-    for (width, lanes, device, _) in WIRINGS {
-        let wiring = Wiring {
-            width,
-            geometry: Geometry { lanes, device },
-        };
-        match load(&rt, rt.alloc(), wiring, NO_Q)? {
-            Loaded::Intel8(mut bank) => finds(&rt, &mut bank, none),
-            Loaded::Intel16(mut bank) => finds(&rt, &mut bank, none),
-            Loaded::Intel32(mut bank) => finds(&rt, &mut bank, none),
-            Loaded::Intel64(mut bank) => finds(&rt, &mut bank, none),
+    for set in [Set::Intel, Set::Amd] {
+        for (width, lanes, device, cycles, words) in WIRINGS {
+            let geometry = Geometry { lanes, device };
+            let loaded = load(&rt, rt.alloc(), Wiring { width, geometry }, set)?;
+            with_bank!(loaded, bank => tries(&rt, rt.alloc(), bank, geometry, cycles, words)?);
         }
     }
     Ok(())

@@ -1,11 +1,10 @@
 -- What reading a bank leaves of it, and how it ends.
-use Rattle.std.proofs.Common.{◌≡◌, ◌<◌, ◌≤◌, ◌+◌, ◌*◌, ◌/◌, ◌%◌, ◌∙◌, ℕ, zero, suc, List, [], ◌∷◌, ◌++◌, length, slice_index, refl, sym, ap, subst, arith, Option, Some, None, Bool, true, false, nat_lt, is_some, get_or, if◌then◌else◌, codes}
+use Rattle.std.proofs.Common.{◌≡◌, ◌<◌, ◌≤◌, ◌+◌, ◌*◌, ◌/◌, ◌%◌, ◌∙◌, ℕ, zero, suc, List, [], ◌∷◌, ◌++◌, length, slice_index, refl, sym, ap, subst, arith, true, false, nat_lt, get_or, codes}
 use Rattle.std.proofs.Math.Nat.{mul_left_comm}
 use Rattle.hex.specs.Hex.{encode_with, encode_lower, lower_digits}
 use Rattle.nor_cell.specs.Bits.{unit_len}
 use Rattle.nor_cell.specs.Chip.{ChipState}
 use Rattle.nor_cell.specs.declared.device.Device.{Device}
-use Rattle.nor_cell.specs.declared.geometry.Geometry.{Geometry}
 use Rattle.nor_bus.specs.Bus.{BusState, IsBank, IsWired, lane, lanes_of, chip_at, units_of, wide, bank_byte, bank_bytes, bank_size}
 use Rattle.nor_bus.specs.Cycles.{KeepsLanes}
 use Rattle.nor_bus.specs.Driven.{EachLane, AllLanes, Went}
@@ -14,10 +13,8 @@ use Rattle.nor_bus.proofs.Sizes.{bus_units}
 use Rattle.nor_lane.proofs.Places.{lane_at_below}
 use Rattle.nor_bank.specs.Ranges.{IsReadable, AreOfBank}
 use Rattle.nor_probe.specs.Asking.{Resets}
-use Rattle.nor_probe.specs.Found.{found_geometry}
-use Rattle.norbank.specs.Endings.{ends, bank_ending, probed_ending, range_ending}
 use Rattle.norbank.specs.Open.{IsIdleChip, IsOpen, SameBytes}
-use Rattle.norbank.specs.Text.{hex_line, out_of_range, no_answer}
+use Rattle.norbank.specs.Text.{hex_line}
 
 -- ---- bytes of a bank
 
@@ -115,32 +112,10 @@ bank_words width device bus wired bank =
     ∙ (ap (λ (n : ℕ). lanes_of bus * (units_of bus * n)) d
     ∙ (mul_left_comm (lanes_of bus) (units_of bus) (unit_len device) ∙ ap (λ (n : ℕ). units_of bus * n) fills))
 
--- ---- endings
-
-no_found : (found : Option Geometry) (device : Device) (chips : List ChipState) (at len : ℕ) → is_some found ≡ false → probed_ending found device chips at len ≡ ends 5 no_answer
-no_found None device chips at len is = refl
-no_found (Some g) device chips at len is = cc
-
-some_found : (found : Option Geometry) (device : Device) (chips : List ChipState) (at len : ℕ) → is_some found ≡ true → probed_ending found device chips at len ≡ range_ending device chips at len
-some_found None device chips at len is = cc
-some_found (Some g) device chips at len is = refl
+-- ---- comparisons
 
 pub lt_true : (m n : ℕ) → m < n → nat_lt m n ≡ true
 lt_true m n less = grind (arith, less)
 
 pub lt_false : (m n : ℕ) → n ≤ m → nat_lt m n ≡ false
 lt_false m n less = grind (arith, less)
-
-pub ends_silent : (width : ℕ) (device : Device) (chips : List ChipState) (at len : ℕ) (shows : Bool) → shows ≡ is_some (found_geometry width chips) → shows ≡ false
-    → bank_ending width device chips at len ≡ ends 5 no_answer
-ends_silent width device chips at len shows is hidden = no_found (found_geometry width chips) device chips at len (sym is ∙ hidden)
-
-pub ends_outside : (width : ℕ) (device : Device) (chips : List ChipState) (at len : ℕ) (shows : Bool) → shows ≡ is_some (found_geometry width chips) → shows ≡ true
-    → bank_size chips < at + len → bank_ending width device chips at len ≡ ends 10 out_of_range
-ends_outside width device chips at len shows is seen past =
-    some_found (found_geometry width chips) device chips at len (sym is ∙ seen) ∙ ap (λ (b : Bool). if b then ends 10 out_of_range else ends 0 (hex_line (bank_bytes device chips at len))) (lt_true (bank_size chips) (at + len) past)
-
-pub ends_inside : (width : ℕ) (device : Device) (chips : List ChipState) (at len : ℕ) (shows : Bool) → shows ≡ is_some (found_geometry width chips) → shows ≡ true
-    → at + len ≤ bank_size chips → bank_ending width device chips at len ≡ ends 0 (hex_line (bank_bytes device chips at len))
-ends_inside width device chips at len shows is seen within =
-    some_found (found_geometry width chips) device chips at len (sym is ∙ seen) ∙ ap (λ (b : Bool). if b then ends 10 out_of_range else ends 0 (hex_line (bank_bytes device chips at len))) (lt_false (bank_size chips) (at + len) within)

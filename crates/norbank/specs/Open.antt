@@ -1,16 +1,17 @@
 -- A bus that can be read, and what reading leaves of it.
-use Rattle.std.specs.Prelude.{◌≡◌, ◌≤◌, ◌+◌, ℕ, true, None, List, Option, Some, IsSome}
+use Rattle.std.specs.Prelude.{◌≡◌, ◌≤◌, ◌+◌, ℕ, true, None, List, Option, Some}
 use Rattle.nor_cell.specs.Bits.{AreBytes}
 use Rattle.nor_cell.specs.Chip.{ChipState}
 use Rattle.nor_cell.specs.Resting.{IsResting}
 use Rattle.nor_cell.specs.declared.device.Device.{Device}
-use Rattle.nor_cell.specs.declared.device.Set.TheVariants.{Intel}
 use Rattle.nor_bus.specs.Bus.{BusState, IsBank, bank_bytes, bank_size}
 use Rattle.nor_bus.specs.Driven.{AllLanes}
 use Rattle.nor_bank.specs.Ranges.{IsReadable}
 use Rattle.nor_io.specs.Files.{FileMap, Appends}
-use Rattle.nor_image.specs.Image.{image_refusal, machine_of, device_of, width_of}
-use Rattle.nor_probe.specs.Found.{found_geometry}
+use Rattle.nor_image.specs.Image.{image_refusal, device_of, width_of}
+use Rattle.nor_probe.specs.Probed.{refusal, IsFoundOn}
+use Rattle.nor_probe.specs.declared.probing.Found.{Found}
+use Rattle.nor_show.specs.Lines.{shown_lines}
 use Rattle.norbank.specs.Endings.{chips_of_file}
 use Rattle.norbank.specs.Says.{IsFound}
 use Rattle.norbank.specs.Text.{hex_line}
@@ -30,15 +31,27 @@ pub record IsOpen (bus : BusState) : Type 0 where
   pub powered : IsPowered bus
   pub chips : AllLanes IsReadable bus
 
--- The file under a name stands for a bank that answers, and its bytes were printed.
+-- The file stands for a bank, which probing accepts.
+pub record IsAccepted (file : List ℕ) : Type 0 where
+  pub formed : image_refusal file ≡ None
+  pub accepted : refusal (width_of file) (chips_of_file file) ≡ None
+
+-- The file under a name stands for a bank that probing accepts, and its bytes were printed.
 pub record PrintsImage (told : Option FileMap) (name : List ℕ) (at len : ℕ) (before after : Option (List ℕ)) : Type 0 where
   pub file : List ℕ
   pub is_found : IsFound told name (Some file)
-  pub formed : image_refusal file ≡ None
-  pub machine : machine_of file ≡ Intel
-  pub answers : IsSome (found_geometry (width_of file) (chips_of_file file))
+  pub accepted : IsAccepted file
   pub within : at + len ≤ bank_size (chips_of_file file)
   pub text : Appends before (hex_line (bank_bytes (device_of file) (chips_of_file file) at len)) after
+
+-- The same, and it was printed what the bank is.
+pub record ShowsImage (told : Option FileMap) (name : List ℕ) (before after : Option (List ℕ)) : Type 0 where
+  pub file : List ℕ
+  pub is_found : IsFound told name (Some file)
+  pub accepted : IsAccepted file
+  pub found : Found
+  pub is : IsFoundOn (width_of file) (chips_of_file file) found
+  pub text : Appends before (shown_lines (width_of file) found.geometry found.query found.map) after
 
 -- The chips have the cells that they had.
 abbrev pub SameBytes : BusState → BusState → Type 0

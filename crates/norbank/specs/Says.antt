@@ -3,8 +3,11 @@ use Rattle.std.specs.Prelude.{◌≡◌, ◌⊎◌, ℕ, List, Option, Some, Non
 use Rattle.nor_io.specs.declared.sink.SinkError.{SinkError}
 use Rattle.nor_io.specs.declared.sink.SinkError.TheVariants.{Fault, NoMemory}
 use Rattle.nor_io.specs.Files.{FileMap, Rose, Appends, AppendsPart}
-use Rattle.norbank.specs.Endings.{Ending, found_ending, ends}
+use Rattle.norbank.specs.Endings.{Ending, IsBankEnding, IsFileEnding, IsNamedEnding, ends}
 use Rattle.norbank.specs.Text.{read_fault, no_memory}
+use Rattle.norbank.specs.declared.words.Task.{Task}
+use Rattle.nor_cell.specs.Chip.{ChipState}
+use Rattle.nor_cell.specs.declared.device.Device.{Device}
 
 -- what a sink has taken, and its count of faults, before and after
 pub record Taken : Type 0 where
@@ -12,6 +15,11 @@ pub record Taken : Type 0 where
   pub after : Option (List ℕ)
   pub faults_before : ℕ
   pub faults_after : ℕ
+
+-- by what is told of it before and after, and the counts
+abbrev pub took : Option (List ℕ) → Option (List ℕ) → ℕ → ℕ → Taken
+took before after faults_before faults_after =
+    record { before = before; after = after; faults_before = faults_before; faults_after = faults_after }
 
 -- The text was put; or the output failed, which its count tells, or lacked memory, and then a first part of it was.
 abbrev pub PutsText : List ℕ → Taken → Result (Unit {0}) SinkError → Type 0
@@ -35,8 +43,30 @@ abbrev pub IsFound : Option FileMap → List ℕ → Option (List ℕ) → Type 
 IsFound None name found = Unit {0}
 IsFound (Some files) name found = files name ≡ found
 
--- A command that reads a file ends as that file says, or with a read fault, which the shelf's count tells, or with want of memory.
-pub record ReadEnds (told : Option FileMap) (name : List ℕ) (at len : ℕ) (shelf_before shelf_after : ℕ) (taken : Taken) (status : ℕ) : Type 0 where
+-- Something ends in one of these ways.
+pub record EndsIn (IsEnding : Ending → Type 0) (taken : Taken) (status : ℕ) : Type 0 where
+  pub ending : Ending
+  pub is : IsEnding ending
+  pub says : Says ending taken status
+
+-- memory ran out
+abbrev pub Lacks : Taken → ℕ → Type 0
+Lacks taken status = Says (ends 9 no_memory) taken status
+
+-- A task on a bank, and one on a file, ends so, or for want of memory.
+abbrev pub BankSays : Task → ℕ → Device → List ChipState → Taken → ℕ → Type 0
+BankSays task width device chips taken status = EndsIn (IsBankEnding task width device chips) taken status ⊎ Lacks taken status
+
+abbrev pub FileSays : Task → List ℕ → Taken → ℕ → Type 0
+FileSays task file taken status = EndsIn (IsFileEnding task file) taken status ⊎ Lacks taken status
+
+-- what is under a name, as far as the shelf tells it, says how a task on it ends
+pub record IsToldEnding (task : Task) (told : Option FileMap) (name : List ℕ) (ending : Ending) : Type 0 where
   pub found : Option (List ℕ)
   pub is_found : IsFound told name found
-  pub ends_so : SaysOrLacks (found_ending found name at len) taken status ⊎ (Rose shelf_before shelf_after × Says (ends 7 (read_fault name)) taken status)
+  pub is : IsNamedEnding task found name ending
+
+-- A task ends as the file under its name says, or with a read fault, which the shelf's count tells, or for want of memory.
+abbrev pub TaskEnds : Task → Option FileMap → List ℕ → (shelf_before shelf_after : ℕ) → Taken → ℕ → Type 0
+TaskEnds task told name f g taken status =
+    EndsIn (IsToldEnding task told name) taken status ⊎ ((Rose f g × Says (ends 7 (read_fault name)) taken status) ⊎ Lacks taken status)

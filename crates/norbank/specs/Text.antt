@@ -1,6 +1,9 @@
 -- Texts that the program puts, and bytes as hex text.
 use Rattle.std.specs.Prelude.{ℕ, List, [], ◌∷◌, ◌++◌, codes}
 use Rattle.hex.specs.Hex.{encode_lower}
+use Rattle.nor_probe.specs.declared.error.ProbeError.{ProbeError}
+use Rattle.nor_probe.specs.declared.error.ProbeError.TheVariants.{NoAnswer, LaneDiffers, Query, Off}
+use Rattle.nor_show.specs.Refusals.{query_text, difference_text}
 
 -- a line of lower-case hex text, a dash for no bytes
 abbrev pub hex_line : List ℕ → List ℕ
@@ -19,9 +22,6 @@ no_memory = codes "no memory\n"
 abbrev pub out_of_range : List ℕ
 out_of_range = codes "out of range\n"
 
-abbrev pub no_answer : List ℕ
-no_answer = codes "probe: no answer\n"
-
 abbrev pub too_large : List ℕ
 too_large = codes "image: too large\n"
 
@@ -34,3 +34,10 @@ read_fault name = line_of (codes "read fault ") name
 
 abbrev pub absent : List ℕ → List ℕ
 absent name = line_of (codes "absent ") name
+
+-- why probing refuses a bank
+abbrev pub probe_text : ProbeError → List ℕ
+probe_text NoAnswer = codes "no answer"
+probe_text (LaneDiffers lane offset left right) = difference_text lane offset left right
+probe_text (Query error) = query_text error
+probe_text Off = []

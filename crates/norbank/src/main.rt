@@ -2,32 +2,46 @@
 //!
 //! `main` hands the words, the files and the output to `quiet`, which does the work and carries the
 //! promises: how each command ends, with which text and status, by the words and the bytes of the
-//! file. `specs/Endings.antt` says that as a function; `words` reads the words, `reading` makes a
-//! bank of the file and reads it, `printing` puts the bytes as text. It stands on nor_image for the
-//! file, on nor_probe and nor_bank for the bank, and on nor_io for files and output.
+//! file, as `specs/Endings.antt` says. `words` reads the words, `loading` makes a bank of the file,
+//! `answering` probes the bank and does what is asked of it, `printing` puts bytes as text. It stands
+//! on nor_image for the file, on nor_probe, nor_show and nor_bank for the bank, and on nor_io for
+//! files and output.
 #![tactic(auto)]
 
+mod answering;
+mod loading;
 mod printing;
 mod quiet;
-mod reading;
 mod status;
 #[cfg(test)]
 mod tests;
 mod words;
 
-use anyhow::Result;
 use nor_io::{FsShelf, StdSink};
+use std::io::ErrorKind;
 use std::process::ExitCode;
 use std::{env, io};
 
-fn main(rt: HostRuntime) -> Result<ExitCode> {
-    let alloc = rt.alloc();
-    let mut words = Vec::new(alloc);
-    for word in env::args(&rt)?.skip(1) {
+// The words after the program's name.
+fn words_of(rt: &HostRuntime) -> io::Result<Vec<String>> {
+    let mut words = Vec::new(rt.alloc());
+    for word in env::args(rt)?.skip(1) {
         words.push(word)?;
     }
+    Ok(words)
+}
+
+fn main(rt: HostRuntime) -> ExitCode {
+    let alloc = rt.alloc();
     let mut shelf = FsShelf::new(&rt);
     let mut out = StdSink::new(io::writer(&rt));
-    let status = quiet::quiet(alloc, &words, &mut shelf, &mut out);
-    Ok(ExitCode::from(status.code))
+    let status = match words_of(&rt) {
+        Ok(words) => quiet::quiet(alloc, &words, &mut shelf, &mut out),
+        Err(error) if error.kind() == ErrorKind::OutOfMemory => {
+            status::say(9, b"no memory\n", &mut out)
+        }
+        // A word that isn't UTF-8 matches no form.
+        Err(_) => quiet::quiet(alloc, &[], &mut shelf, &mut out),
+    };
+    ExitCode::from(status.code)
 }

@@ -3,7 +3,7 @@ ghost use Rattle.hex.specs.Hex.{encode_lower};
 ghost use Rattle.nor_cell.specs.declared.device.Device.{Device};
 ghost use Rattle.nor_bus.specs.Bus.{IsBank, units_of, bank_bytes};
 ghost use Rattle.norbank.specs.Open.{IsOpen};
-ghost use Rattle.norbank.specs.Says.{PutsText};
+ghost use Rattle.norbank.specs.Says.{PutsText, took};
 ghost use Rattle.norbank.specs.Text.{hex_line};
 
 use crate::status::put_text;
@@ -18,7 +18,7 @@ const PIECE: usize = 4096;
 // Puts the hex text of at most one piece.
 fn put_hex<K: Sink>(bytes: &[u8], out: &mut K) -> Result<(), SinkError>
     requires { length bytes.now ≤ 4096 }
-    ensures puts { PutsText (encode_lower bytes.now) (record { before = K.taken out.old; after = K.taken out.new; faults_before = K.faults out.old; faults_after = K.faults out.new }) result }
+    ensures puts { PutsText (encode_lower bytes.now) (took (K.taken out.old) (K.taken out.new) (K.faults out.old) (K.faults out.new)) result }
     ensures later { K.faults out.old ≤ K.faults out.new }
 {
     let mut text = [0u8; 2 * 4096];
@@ -40,7 +40,7 @@ fn put_piece<W: BusWord, B: Bus<W>, K: Sink>(
     requires few { at + length piece.old < 2 ^ 32 }
     requires within { at + length piece.old ≤ units_of (B.state bus.old) * W.WIDTH }
     requires wired { (device : Device) × IsBank W.WIDTH device (B.state bus.old).lanes }
-    ensures puts { (device : Device) → IsBank W.WIDTH device (B.state bus.old).lanes → PutsText (encode_lower (bank_bytes device (B.state bus.old).lanes at (length piece.old))) (record { before = K.taken out.old; after = K.taken out.new; faults_before = K.faults out.old; faults_after = K.faults out.new }) result }
+    ensures puts { (device : Device) → IsBank W.WIDTH device (B.state bus.old).lanes → PutsText (encode_lower (bank_bytes device (B.state bus.old).lanes at (length piece.old))) (took (K.taken out.old) (K.taken out.new) (K.faults out.old) (K.faults out.new)) result }
     ensures same { (B.state bus.new).lanes ≡ (B.state bus.old).lanes }
     ensures open { IsOpen (B.state bus.new) }
     ensures units { units_of (B.state bus.new) ≡ units_of (B.state bus.old) }
@@ -61,7 +61,7 @@ fn put_pieces<W: BusWord, B: Bus<W>, K: Sink>(
     requires few { at + len < 2 ^ 32 }
     requires within { at + len ≤ units_of (B.state bus.old) * W.WIDTH }
     requires wired { (device : Device) × IsBank W.WIDTH device (B.state bus.old).lanes }
-    ensures puts { (device : Device) → IsBank W.WIDTH device (B.state bus.old).lanes → PutsText (encode_lower (bank_bytes device (B.state bus.old).lanes at len)) (record { before = K.taken out.old; after = K.taken out.new; faults_before = K.faults out.old; faults_after = K.faults out.new }) result }
+    ensures puts { (device : Device) → IsBank W.WIDTH device (B.state bus.old).lanes → PutsText (encode_lower (bank_bytes device (B.state bus.old).lanes at len)) (took (K.taken out.old) (K.taken out.new) (K.faults out.old) (K.faults out.new)) result }
     ensures later { K.faults out.old ≤ K.faults out.new }
 {
     let mut buffer = [0u8; PIECE];
@@ -88,7 +88,7 @@ pub fn print_bytes<W: BusWord, B: Bus<W>, K: Sink>(
     requires few { at + len < 2 ^ 32 }
     requires within { at + len ≤ units_of (B.state bus.old) * W.WIDTH }
     requires wired { (device : Device) × IsBank W.WIDTH device (B.state bus.old).lanes }
-    ensures puts { (device : Device) → IsBank W.WIDTH device (B.state bus.old).lanes → PutsText (hex_line (bank_bytes device (B.state bus.old).lanes at len)) (record { before = K.taken out.old; after = K.taken out.new; faults_before = K.faults out.old; faults_after = K.faults out.new }) result }
+    ensures puts { (device : Device) → IsBank W.WIDTH device (B.state bus.old).lanes → PutsText (hex_line (bank_bytes device (B.state bus.old).lanes at len)) (took (K.taken out.old) (K.taken out.new) (K.faults out.old) (K.faults out.new)) result }
     ensures later { K.faults out.old ≤ K.faults out.new }
 {
     if len == 0 {

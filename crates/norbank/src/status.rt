@@ -1,6 +1,6 @@
 ghost use Rattle.std.specs.Prelude.{◌≡◌, ◌≤◌, ◌++◌, ℕ, List, codes};
 ghost use Rattle.norbank.specs.Endings.{ends};
-ghost use Rattle.norbank.specs.Says.{PutsText, Says};
+ghost use Rattle.norbank.specs.Says.{PutsText, Says, took};
 ghost use Rattle.norbank.specs.Text.{line_of};
 ghost use Rattle.norbank.specs.Status.{AfterPut};
 
@@ -14,7 +14,7 @@ pub struct Status {
 
 // Puts a text.
 pub fn put_text<K: Sink>(text: &[u8], out: &mut K) -> Result<(), SinkError>
-    ensures puts { PutsText text.now (record { before = K.taken out.old; after = K.taken out.new; faults_before = K.faults out.old; faults_after = K.faults out.new }) result }
+    ensures puts { PutsText text.now (took (K.taken out.old) (K.taken out.new) (K.faults out.old) (K.faults out.new)) result }
     ensures later { K.faults out.old ≤ K.faults out.new }
 {
     out.put(text)
@@ -22,7 +22,7 @@ pub fn put_text<K: Sink>(text: &[u8], out: &mut K) -> Result<(), SinkError>
 
 // Puts one text and then another.
 fn put_both<K: Sink>(first: &[u8], second: &[u8], out: &mut K) -> Result<(), SinkError>
-    ensures puts { PutsText (first.now ++ second.now) (record { before = K.taken out.old; after = K.taken out.new; faults_before = K.faults out.old; faults_after = K.faults out.new }) result }
+    ensures puts { PutsText (first.now ++ second.now) (took (K.taken out.old) (K.taken out.new) (K.faults out.old) (K.faults out.new)) result }
     ensures later { K.faults out.old ≤ K.faults out.new }
 {
     match put_text(first, out) {
@@ -33,7 +33,7 @@ fn put_both<K: Sink>(first: &[u8], second: &[u8], out: &mut K) -> Result<(), Sin
 
 // Puts a text, something behind it, and a newline.
 fn put_line<K: Sink>(head: &[u8], tail: &[u8], out: &mut K) -> Result<(), SinkError>
-    ensures puts { PutsText (line_of head.now tail.now) (record { before = K.taken out.old; after = K.taken out.new; faults_before = K.faults out.old; faults_after = K.faults out.new }) result }
+    ensures puts { PutsText (line_of head.now tail.now) (took (K.taken out.old) (K.taken out.new) (K.faults out.old) (K.faults out.new)) result }
     ensures later { K.faults out.old ≤ K.faults out.new }
 {
     match put_both(head, tail, out) {
@@ -55,7 +55,7 @@ pub fn after_put(code: u8, put: Result<(), SinkError>) -> Status
 
 /// Puts a text, and ends with a status.
 pub fn say<K: Sink>(code: u8, text: &[u8], out: &mut K) -> Status
-    ensures says { Says (ends code text.now) (record { before = K.taken out.old; after = K.taken out.new; faults_before = K.faults out.old; faults_after = K.faults out.new }) result.code }
+    ensures says { Says (ends code text.now) (took (K.taken out.old) (K.taken out.new) (K.faults out.old) (K.faults out.new)) result.code }
     ensures later { K.faults out.old ≤ K.faults out.new }
 {
     let put = put_text(text, out);
@@ -64,7 +64,7 @@ pub fn say<K: Sink>(code: u8, text: &[u8], out: &mut K) -> Status
 
 /// Puts a line, and ends with a status.
 pub fn say_line<K: Sink>(code: u8, head: &[u8], tail: &[u8], out: &mut K) -> Status
-    ensures says { Says (ends code (line_of head.now tail.now)) (record { before = K.taken out.old; after = K.taken out.new; faults_before = K.faults out.old; faults_after = K.faults out.new }) result.code }
+    ensures says { Says (ends code (line_of head.now tail.now)) (took (K.taken out.old) (K.taken out.new) (K.faults out.old) (K.faults out.new)) result.code }
     ensures later { K.faults out.old ≤ K.faults out.new }
 {
     let put = put_line(head, tail, out);

@@ -1,123 +1,15 @@
+//! The program over shelves and sinks in memory: banks of each kind, and each refusal.
+mod images;
+
 use crate::quiet::quiet;
+use images::{
+    Image, changed, file_of, first_part, four_amd_x16, four_x16, one_amd_in_byte_mode,
+    one_in_byte_mode, one_x16, top_boot, two_x8,
+};
 use nor_io::{MemShelf, MemSink};
 use std::alloc::{AllocError, Global};
 use std::process::Abort;
 use std::test::Fail;
-
-// A query table from its word 0x10 on, of a chip of set 0001 with 8 KiB.
-const TABLE: [u8; 43] = [
-    0x51, 0x52, 0x59, 0x01, 0x00, 0x31, 0x00, 0x00, 0x00, 0x00, 0x00, 0x27, 0x36, 0x00, 0x00, 0x04,
-    0x06, 0x0a, 0x00, 0x02, 0x02, 0x02, 0x00, 0x0d, 0x01, 0x00, 0x05, 0x00, 0x01, 0x07, 0x00, 0x04,
-    0x00, 0x50, 0x52, 0x49, 0x31, 0x31, 0x22, 0x00, 0x00, 0x00, 0x01,
-];
-
-// A bank: the bus width, the device's code and the lanes; the first letter of its tables and the
-// set that they name; and whether lane 1's cells fall from 255, as the other lanes' rise from 0.
-#[derive(Clone, Copy)]
-struct Image {
-    width: u8,
-    device: u8,
-    lanes: u8,
-    letter: u8,
-    set: u8,
-    falls: bool,
-}
-
-const ONE_X16: Image = Image {
-    width: 2,
-    device: 1,
-    lanes: 1,
-    letter: b'Q',
-    set: 1,
-    falls: false,
-};
-
-const TWO_X8: Image = Image {
-    width: 2,
-    device: 0,
-    lanes: 2,
-    letter: b'Q',
-    set: 1,
-    falls: true,
-};
-
-const FOUR_X16: Image = Image {
-    width: 8,
-    device: 1,
-    lanes: 4,
-    letter: b'Q',
-    set: 1,
-    falls: false,
-};
-
-const ONE_X16_IN_BYTE_MODE: Image = Image {
-    width: 1,
-    device: 2,
-    lanes: 1,
-    letter: b'Q',
-    set: 1,
-    falls: false,
-};
-
-const SILENT: Image = Image {
-    width: 2,
-    device: 1,
-    lanes: 1,
-    letter: 0,
-    set: 1,
-    falls: false,
-};
-
-const OF_THE_OTHER_SET: Image = Image {
-    width: 2,
-    device: 1,
-    lanes: 1,
-    letter: b'Q',
-    set: 2,
-    falls: false,
-};
-
-fn push_zeros(file: &mut Vec<u8>, count: u32) -> Result<(), AllocError> {
-    for _ in 0..count {
-        file.push(0)?;
-    }
-    Ok(())
-}
-
-fn push_lane(file: &mut Vec<u8>, image: Image, falls: bool) -> Result<(), AllocError> {
-    file.extend_from_slice(&[2, 0, 0, 0, 4, 0, 0, 0, 2, 0, 0, 0, 0, 0, 0, 0, 0, 0, 0, 0])?;
-    push_zeros(file, 0x10)?;
-    file.push(image.letter)?;
-    file.extend_from_slice(&TABLE[1..3])?;
-    file.push(image.set)?;
-    file.extend_from_slice(&TABLE[4..])?;
-    push_zeros(file, 512 - 0x10 - 43)?;
-    file.extend_from_slice(&[0, 0x20, 0, 0])?;
-    for place in 0..8192u32 {
-        let rise = (place % 256) as u8;
-        file.push(if falls { 255 - rise } else { rise })?;
-    }
-    Ok(())
-}
-
-fn file_of(alloc: Global, image: Image) -> Result<Vec<u8>, AllocError> {
-    let mut file = Vec::new(alloc);
-    file.extend_from_slice(b"NORBANK1")?;
-    file.extend_from_slice(&[image.width, image.device, image.lanes, 0])?;
-    for lane in 0..image.lanes {
-        push_lane(&mut file, image, image.falls && lane == 1)?;
-    }
-    Ok(file)
-}
-
-// The first `len` bytes of a file, or all that it has.
-fn first_part(file: &[u8], len: usize) -> &[u8] {
-    if len <= file.len() {
-        &file[..len]
-    } else {
-        file
-    }
-}
 
 fn words_of(alloc: Global, texts: &[&str]) -> Result<Vec<String>, AllocError> {
     let mut words = Vec::new(alloc);
@@ -144,90 +36,54 @@ fn run(
     Ok((status.code, out.taken().to_vec(alloc)?))
 }
 
-fn expect(
+// Words, the status that they end with, and what they print.
+type Case<'a> = (&'a [&'a str], u8, &'a [u8]);
+
+fn expect(rt: &impl Abort, alloc: Global, file: &[u8], cases: &[Case]) -> Result<(), AllocError> {
+    for (texts, code, printed) in cases {
+        let (status, text) = run(alloc, texts, file, &[], &[])?;
+        assert_eq!(rt; status, *code);
+        assert_eq!(rt; text.as_slice(), *printed);
+    }
+    Ok(())
+}
+
+// The same over the file of a bank.
+fn expect_of(
     rt: &impl Abort,
     alloc: Global,
-    file: &[u8],
-    texts: &[&str],
-    code: u8,
-    printed: &[u8],
+    image: Image,
+    cases: &[Case],
 ) -> Result<(), AllocError> {
-    let (status, text) = run(alloc, texts, file, &[], &[])?;
-    assert_eq!(rt; status, code);
-    assert_eq!(rt; text.as_slice(), printed);
-    Ok(())
+    let file = file_of(alloc, image)?;
+    expect(rt, alloc, &file, cases)
 }
 
 #[test]
 fn bytes_of_any_wiring_are_printed(rt: HostRuntime) -> Result<(), Fail> {
     let alloc = rt.alloc();
-    let one = file_of(alloc, ONE_X16)?;
-    expect(
-        &rt,
-        alloc,
-        &one,
-        &["read", "bank", "0x10", "4"],
-        0,
-        b"10111213\n",
-    )?;
-    expect(
-        &rt,
-        alloc,
-        &one,
-        &["read", "bank", "3", "3"],
-        0,
-        b"030405\n",
-    )?;
-    expect(
-        &rt,
-        alloc,
-        &one,
-        &["read", "bank", "0x1FFF", "1"],
-        0,
-        b"ff\n",
-    )?;
-    expect(
-        &rt,
-        alloc,
-        &one,
-        &["read", "bank", "0x2000", "0"],
-        0,
-        b"-\n",
-    )?;
-    let two = file_of(alloc, TWO_X8)?;
-    expect(
-        &rt,
-        alloc,
-        &two,
-        &["read", "bank", "3", "3"],
-        0,
-        b"fe02fd\n",
-    )?;
-    let four = file_of(alloc, FOUR_X16)?;
-    expect(
-        &rt,
-        alloc,
-        &four,
-        &["read", "bank", "0x7", "2"],
-        0,
-        b"0102\n",
-    )?;
-    let byte = file_of(alloc, ONE_X16_IN_BYTE_MODE)?;
-    expect(
-        &rt,
-        alloc,
-        &byte,
-        &["read", "bank", "0x1ff", "3"],
-        0,
-        b"ff0001\n",
-    )?;
+    let one: [Case; 4] = [
+        (&["read", "bank", "0x10", "4"], 0, b"10111213\n"),
+        (&["read", "bank", "3", "3"], 0, b"030405\n"),
+        (&["read", "bank", "0x1FFF", "1"], 0, b"ff\n"),
+        (&["read", "bank", "0x2000", "0"], 0, b"-\n"),
+    ];
+    expect_of(&rt, alloc, one_x16(), &one)?;
+    let two: [Case; 1] = [(&["read", "bank", "3", "3"], 0, b"fe02fd\n")];
+    expect_of(&rt, alloc, two_x8(), &two)?;
+    let four: [Case; 1] = [(&["read", "bank", "0x7", "2"], 0, b"0102\n")];
+    expect_of(&rt, alloc, four_x16(), &four)?;
+    expect_of(&rt, alloc, four_amd_x16(), &four)?;
+    let byte: [Case; 1] = [(&["read", "bank", "0x1ff", "3"], 0, b"ff0001\n")];
+    expect_of(&rt, alloc, one_in_byte_mode(), &byte)?;
+    expect_of(&rt, alloc, one_amd_in_byte_mode(), &byte)?;
     Ok(())
 }
 
 #[test]
 fn a_range_of_several_pieces_is_printed_whole(rt: HostRuntime) -> Result<(), Fail> {
     let alloc = rt.alloc();
-    let one = file_of(alloc, ONE_X16)?;
+    let one = file_of(alloc, one_x16())?;
     let (code, text) = run(alloc, &["read", "bank", "1", "8191"], &one, &[], &[])?;
     assert_eq!(rt; code, 0);
     assert_eq!(rt; text.len(), 16383);
@@ -244,67 +100,43 @@ fn a_range_of_several_pieces_is_printed_whole(rt: HostRuntime) -> Result<(), Fai
 }
 
 #[test]
+fn what_a_bank_is_is_shown(rt: HostRuntime) -> Result<(), Fail> {
+    let alloc = rt.alloc();
+    let byte: [Case; 1] = [(
+        &["show", "bank"],
+        0,
+        b"width 1\nlanes 1\ndevice x16-byte\nset 0002\nsize 8192\nbank 8192\ninterface 2\nbuffer 0\ntimes 4 6 10 0 2 2 2 0\nversion 1.3\nalternate 0000 0000\nsuspend program\nlocks yes\nregion 0 8 1024\nblocks 8\nlimits 80 272 4112\n",
+    )];
+    expect_of(&rt, alloc, one_amd_in_byte_mode(), &byte)?;
+    let top: [Case; 1] = [(
+        &["show", "bank"],
+        0,
+        b"width 2\nlanes 1\ndevice x16\nset 0002\nsize 4096\nbank 4096\ninterface 1\nbuffer 32\ntimes 4 6 10 0 2 2 2 0\nversion 1.3\nalternate 0000 0000\nsuspend program\nlocks yes\nregion 0 3 1024\nregion 1 7 128\nregion 2 1 128\nblocks 11\nlimits 80 272 4112\n",
+    )];
+    expect_of(&rt, alloc, top_boot(), &top)?;
+    let four: [Case; 1] = [(
+        &["show", "bank"],
+        0,
+        b"width 8\nlanes 4\ndevice x16\nset 0001\nsize 8192\nbank 32768\ninterface 1\nbuffer 32\ntimes 4 6 10 0 2 2 2 0\nversion 1.1\nalternate 0000 0000\nsuspend program\nlocks yes\nregion 0 8 4096\nblocks 8\nlimits 80 272 4112\n",
+    )];
+    expect_of(&rt, alloc, four_x16(), &four)?;
+    Ok(())
+}
+
+#[test]
 fn refusals_name_their_cause(rt: HostRuntime) -> Result<(), Fail> {
     let alloc = rt.alloc();
-    let one = file_of(alloc, ONE_X16)?;
-    expect(
-        &rt,
-        alloc,
-        &one,
-        &["read", "bank", "0x2000", "1"],
-        10,
-        b"out of range\n",
-    )?;
-    expect(
-        &rt,
-        alloc,
-        &one,
-        &["read", "bank", "0x2001", "0"],
-        10,
-        b"out of range\n",
-    )?;
-    expect(
-        &rt,
-        alloc,
-        &one,
-        &["read", "other", "0", "1"],
-        8,
-        b"absent other\n",
-    )?;
-    expect(
-        &rt,
-        alloc,
-        b"hello, world\n",
-        &["read", "bank", "0", "1"],
-        3,
-        b"image: bad magic\n",
-    )?;
-    expect(
-        &rt,
-        alloc,
-        first_part(&one, 8739),
-        &["read", "bank", "0", "1"],
-        3,
-        b"image: truncated at 8739\n",
-    )?;
-    let silent = file_of(alloc, SILENT)?;
-    expect(
-        &rt,
-        alloc,
-        &silent,
-        &["read", "bank", "0", "1"],
-        5,
-        b"probe: no answer\n",
-    )?;
-    let other = file_of(alloc, OF_THE_OTHER_SET)?;
-    expect(
-        &rt,
-        alloc,
-        &other,
-        &["read", "bank", "0", "1"],
-        11,
-        b"not built\n",
-    )?;
+    let cases: [Case; 3] = [
+        (&["read", "bank", "0x2000", "1"], 10, b"out of range\n"),
+        (&["read", "bank", "0x2001", "0"], 10, b"out of range\n"),
+        (&["read", "other", "0", "1"], 8, b"absent other\n"),
+    ];
+    expect_of(&rt, alloc, one_x16(), &cases)?;
+    let text: [Case; 1] = [(&["show", "bank"], 3, b"image: bad magic\n")];
+    expect(&rt, alloc, b"hello, world\n", &text)?;
+    let one = file_of(alloc, one_x16())?;
+    let short: [Case; 1] = [(&["show", "bank"], 3, b"image: truncated at 8739\n")];
+    expect(&rt, alloc, first_part(&one, 8739), &short)?;
     let (code, text) = run(alloc, &["read", "bank", "0", "1"], &one, &[0], &[])?;
     assert_eq!(rt; code, 7);
     assert_eq!(rt; text.as_slice(), b"read fault bank\n".as_slice());
@@ -314,15 +146,83 @@ fn refusals_name_their_cause(rt: HostRuntime) -> Result<(), Fail> {
     Ok(())
 }
 
+// A bank whose file has one byte changed is refused by both commands.
+fn unfound(
+    rt: &impl Abort,
+    alloc: Global,
+    image: Image,
+    at: usize,
+    byte: u8,
+    printed: &[u8],
+) -> Result<(), AllocError> {
+    let file = changed(file_of(alloc, image)?, at, byte);
+    let cases: [Case; 2] = [
+        (&["read", "bank", "0", "1"], 5, printed),
+        (&["show", "bank"], 5, printed),
+    ];
+    expect(rt, alloc, &file, &cases)
+}
+
+#[test]
+fn a_file_that_is_no_banks_is_told(rt: HostRuntime) -> Result<(), Fail> {
+    let alloc = rt.alloc();
+    let width = changed(file_of(alloc, one_x16())?, 8, 3);
+    let bad: [Case; 1] = [(&["show", "bank"], 3, b"image: bad header at 8\n")];
+    expect(&rt, alloc, &width, &bad)?;
+    let mut longer = file_of(alloc, one_x16())?;
+    longer.push(0)?;
+    let trailing: [Case; 1] = [(&["show", "bank"], 3, b"image: trailing at 8740\n")];
+    expect(&rt, alloc, &longer, &trailing)?;
+    // Lane 1's table and its size say 4 KiB.
+    let size = changed(file_of(alloc, two_x8())?, 8799, 12);
+    let other = changed(size, 9273, 0x10);
+    let differs: [Case; 1] = [(&["show", "bank"], 3, b"image: size differs in lane 1\n")];
+    expect(&rt, alloc, &other, &differs)?;
+    Ok(())
+}
+
+#[test]
+fn probing_says_why_a_bank_is_refused(rt: HostRuntime) -> Result<(), Fail> {
+    let alloc = rt.alloc();
+    // Lane 0's table begins at place 32 of the file, lane 1's at place 8760.
+    unfound(&rt, alloc, one_x16(), 32 + 0x10, 0, b"probe: no answer\n")?;
+    unfound(
+        &rt,
+        alloc,
+        one_x16(),
+        32 + 0x2D,
+        6,
+        b"probe: query at 0x2d: sum 7168 size 8192\n",
+    )?;
+    unfound(
+        &rt,
+        alloc,
+        one_x16(),
+        32 + 0x13,
+        3,
+        b"probe: query at 0x13: set 0003\n",
+    )?;
+    unfound(
+        &rt,
+        alloc,
+        two_x8(),
+        8760 + 0x1B,
+        0x30,
+        b"probe: lane 1 differs at 0x1b: 27 30\n",
+    )?;
+    Ok(())
+}
+
 #[test]
 fn words_that_are_no_form_are_usage(rt: HostRuntime) -> Result<(), Fail> {
     let alloc = rt.alloc();
-    let forms: [&[&str]; 12] = [
+    let forms: [&[&str]; 13] = [
         &[],
         &["read"],
         &["read", "bank", "0"],
         &["read", "bank", "0", "1", "2"],
         &["reed", "bank", "0", "1"],
+        &["show"],
         &["race", "bank", "script"],
         &["read", "bank", "4294967296", "1"],
         &["read", "bank", "0x", "1"],
@@ -339,23 +239,18 @@ fn words_that_are_no_form_are_usage(rt: HostRuntime) -> Result<(), Fail> {
             true
         );
     }
-    expect(&rt, alloc, b"", &["show", "bank"], 11, b"not built\n")?;
-    expect(
-        &rt,
-        alloc,
-        b"",
-        &["run", "bank", "script"],
-        11,
-        b"not built\n",
-    )?;
-    expect(&rt, alloc, b"", &["drill", "10"], 11, b"not built\n")?;
+    let unbuilt: [Case; 2] = [
+        (&["run", "bank", "script"], 11, b"not built\n"),
+        (&["drill", "10"], 11, b"not built\n"),
+    ];
+    expect(&rt, alloc, b"", &unbuilt)?;
     Ok(())
 }
 
 #[test]
 fn a_file_that_is_cut_short_never_faults_the_program(rt: HostRuntime) -> Result<(), Fail> {
     let alloc = rt.alloc();
-    let one = file_of(alloc, ONE_X16)?;
+    let one = file_of(alloc, one_x16())?;
     for len in 0..600usize {
         let (code, _text) = run(
             alloc,

@@ -1,7 +1,8 @@
-use Rattle.std.proofs.Common.{rules, ◌≡◌, ◌≢◌, ◌+◌, ◌*◌, ℕ, List, length, replicate, arith, Some, None, false, subst, sym, ap, ◌∙◌}
+use Rattle.std.proofs.Common.{rules, ◌≡◌, ◌≢◌, ◌+◌, ◌*◌, ℕ, List, length, replicate, Some, None, false, subst, sym, ap, ◌∙◌}
 use Rattle.nor_cell.specs.Bits.{AreBytes}
 use Rattle.nor_cell.specs.declared.device.Span.{Span}
-use Rattle.nor_image.specs.Image.{record_fields, weak_fields, weak_in, first_refusal, weak_count, size_in, cells_at, bytes_at}
+use Rattle.nor_query.specs.Derived.{table_blocks}
+use Rattle.nor_image.specs.Image.{record_fields, weak_fields, weak_in, first_refusal, weak_count, size_in, cells_at, bytes_at, is_size_by}
 use Rattle.nor_image.specs.Reading.{IsRefusal}
 use Rattle.nor_image.specs.declared.error.ImageError.TheVariants.{NoMemory}
 use Rattle.nor_image.proofs.Records.{IsMade, chip_made, in_numbers, in_table, in_size, in_weak, in_cells}
@@ -68,21 +69,21 @@ returns c =
     let weak = subst (λ (n : ℕ). first_refusal c.args.file.now (weak_fields c.args.file.now c.args.at n) ≡ None) numbers.weak_count c.in_ok-weak.ensures.read.0 in
     let places = c.in_ok-weak.ensures.read.1 ∙ ap (weak_in c.args.file.now c.args.at) numbers.weak_count in
     let cells = c.in_ok-bytes.ensures.read.1 ∙ (λ i. bytes_at c.args.file.now (place i) (size i)) in
+    let blocks = c.in_ok-blocks.ensures.blocks ∙ ap table_blocks c.in_ok-table.ensures.1 in
     let is : IsMade c.args.file.now c.args.device c.args.at c.in_ok-make_cells.field-0 = record {
       device_is = made.device;
       table = made.table ∙ c.in_ok-table.ensures.1;
-      blocks = made.blocks ∙ c.new.ensures.items;
+      blocks = made.blocks ∙ blocks;
       weak = made.weak ∙ places;
       stuck = made.stuck ∙ numbers.stuck;
       pace_program = made.pace_program ∙ numbers.pace_program;
       pace_erase = made.pace_erase ∙ numbers.pace_erase;
       pace_suspend = made.pace_suspend ∙ numbers.pace_suspend;
       bytes = made.bytes ∙ cells;
-      locks = made.locks ∙ ap (λ (xs : List Span). replicate (length xs) false) c.new.ensures.items;
+      locks = made.locks ∙ ap (λ (xs : List Span). replicate (length xs) false) blocks;
       suspends = made.suspends ∙ numbers.suspends;
       erases = made.erases ∙ numbers.erases;
-    } in
-    let whole = c.in_ok-bytes.ensures.whole in (
+    } in (
       in_cells c.args.file.now c.args.lane c.args.at c.in_ok-numbers.ensures.0 c.in_ok-table.ensures.0 c.in_ok-size.ensures.read.0 weak
           ∙ (sym (any_at c.args.file.now _ _ _ _ place size) ∙ c.in_ok-bytes.ensures.read.0),
       record {
@@ -90,7 +91,7 @@ returns c =
         weak = ap length made.weak ∙ (c.in_ok-weak.ensures.count ∙ numbers.weak_count);
         size = ap length made.bytes ∙ (c.in_ok-bytes.ensures.size ∙ size);
         bytes = subst AreBytes (sym made.bytes) c.in_ok-bytes.ensures.bytes;
+        fits = (λ i. is_size_by (made.table i) ((ap length made.bytes ∙ c.in_ok-bytes.ensures.size) i)) ∙ c.in_ok-size.ensures.fits;
         same = ap length made.bytes ∙ (c.in_ok-bytes.ensures.size ∙ c.in_ok-size.ensures.same);
-        whole = omega arith;
       },
     )

@@ -1,11 +1,12 @@
 use Rattle.std.proofs.Common.{◌≡◌, ◌*◌, ◌∙◌, ap, arith, slice_index_or}
 use Rattle.nor_cell.specs.declared.geometry.Geometry.{Geometry}
 use Rattle.nor_cell.specs.declared.device.Device.TheVariants.{X8}
+use Rattle.nor_bus.specs.Bus.{lane}
 use Rattle.nor_bus.specs.Driven.{Lost}
-use Rattle.nor_bus.proofs.Driving.{went_then, lost_then}
+use Rattle.nor_bus.proofs.Driving.{lost_then}
 use Rattle.nor_lane.specs.Candidates.{candidates_of}
 use Rattle.nor_probe.proofs.Asked.{on_err}
-use Rattle.nor_probe.proofs.Shown.{tried_more, tried_found, next_wiring}
+use Rattle.nor_probe.proofs.Shown.{asked_rests, tried_asks, tried_counted, tried_and_seven, tried_more, tried_found, next_wiring, candidate_fits}
 use Rattle.nor_probe.proofs.find.answering.Goals as goal
 
 pub returns-in_err-shows-clause-lost : goal.returns-in_err-shows-clause-lost
@@ -14,15 +15,34 @@ returns-in_err-shows-clause-lost g c =
     let now = g.B.Bus.state c.loop-i.bus in
     let new = g.B.Bus.state c.try_wiring.new.bus in
     let few = c.as_slice-wirings.ensures.fits in
-    on_err c.from_residual.result (Lost 21 old new) (lost_then 0 (7 * c.loop-i.i) 7 21 old now new (omega arith) c.loop-i.invariant.tried.went c.in_err-shows.ensures.lost)
+    on_err c.from_residual.result (Lost 21 old new) (lost_then (7 * c.loop-i.i) (7 * c.loop-i.i) 7 21 old now new (omega arith) c.loop-i.invariant.tried.went c.in_err-shows.ensures.lost)
 
-pub returns-then-shows-clause-went : goal.returns-then-shows-clause-went
-returns-then-shows-clause-went g c =
+pub returns-then-shows-clause-counted : goal.returns-then-shows-clause-counted
+returns-then-shows-clause-counted g c =
     let old = g.B.Bus.state c.args.bus.now in
     let now = g.B.Bus.state c.loop-i.bus in
     let new = g.B.Bus.state c.try_wiring.new.bus in
     let few = c.as_slice-wirings.ensures.fits in
-    went_then 0 (7 * c.loop-i.i) 7 7 0 21 old now new (omega arith) (omega arith) c.loop-i.invariant.tried.went c.in_ok-shows.ensures.went
+    tried_and_seven g.W.BusWord.WIDTH c.loop-i.i old now new c.loop-i.invariant.tried c.in_ok-shows.ensures.went (omega arith)
+
+pub returns-then-shows-clause-lanes : goal.returns-then-shows-clause-lanes
+returns-then-shows-clause-lanes g c =
+    let old = g.B.Bus.state c.args.bus.now in
+    let now = g.B.Bus.state c.loop-i.bus in
+    let new = g.B.Bus.state c.try_wiring.new.bus in
+    λ k below. asked_rests (lane old k) (lane new k) (tried_asks g.W.BusWord.WIDTH c.loop-i.i old now new c.loop-i.invariant.tried c.in_ok-shows.ensures.lanes k below)
+
+pub returns-then-shows-clause-asked : goal.returns-then-shows-clause-asked
+returns-then-shows-clause-asked g c =
+    let old = g.B.Bus.state c.args.bus.now in
+    let now = g.B.Bus.state c.loop-i.bus in
+    let new = g.B.Bus.state c.try_wiring.new.bus in
+    tried_asks g.W.BusWord.WIDTH c.loop-i.i old now new c.loop-i.invariant.tried c.in_ok-shows.ensures.lanes
+
+pub returns-clause-counted : goal.returns-clause-counted
+returns-clause-counted g c =
+    let few = c.as_slice-wirings.ensures.fits in
+    tried_counted g.W.BusWord.WIDTH c.loop-i.i (g.B.Bus.state c.args.bus.now) (g.B.Bus.state c.loop-i.bus) c.loop-i.invariant.tried (omega arith)
 
 pub returns-then-shows-clause-found : goal.returns-then-shows-clause-found
 returns-then-shows-clause-found g c =
@@ -46,3 +66,9 @@ loop-i-preserved g c =
           (next_wiring g.W.BusWord.WIDTH c.loop-i.i c.as_slice-wirings.result.now none is (omega arith)) c.if-shows.false;
       units = c.in_ok-shows.ensures.units ∙ c.loop-i.invariant.units;
     }
+
+pub returns-then-shows-clause-wiring : goal.returns-then-shows-clause-wiring
+returns-then-shows-clause-wiring g c =
+    let none : Geometry = record { lanes = 0; device = X8 } in
+    let is : c.as_slice-wirings.result.now ≡ candidates_of g.W.BusWord.WIDTH = c.as_slice-wirings.ensures.value ∙ (c.candidates-list.ensures ∙ ap candidates_of c.WIDTH.ensures) in
+    candidate_fits g.W.BusWord.WIDTH c.loop-i.i c.as_slice-wirings.result.now none is (omega arith)

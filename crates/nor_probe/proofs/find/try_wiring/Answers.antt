@@ -3,7 +3,7 @@ use Rattle.nor_bus.specs.Bus.{lane}
 use Rattle.nor_bus.specs.Driven.{Lost}
 use Rattle.nor_bus.proofs.Driving.{went_then, lost_then}
 use Rattle.nor_probe.proofs.Asked.{on_err}
-use Rattle.nor_probe.proofs.Shown.{asked_rests, asked_shows, shows_kept}
+use Rattle.nor_probe.proofs.Shown.{asked_stays, asked_shows, shows_kept}
 use Rattle.nor_probe.proofs.find.try_wiring.Goals as goal
 
 pub returns-in_err-shows-clause-lost : goal.returns-in_err-shows-clause-lost
@@ -20,7 +20,7 @@ returns-clause-went g c =
 pub returns-clause-lanes : goal.returns-clause-lanes
 returns-clause-lanes g c = λ k below.
     let count = c.in_ok-ask.ensures.went.kept.count in
-    asked_rests (lane (g.B.Bus.state c.args.bus.now) k) (lane (g.B.Bus.state c.ask.new.bus) k) (lane (g.B.Bus.state c.shows_qry.new.bus) k)
+    asked_stays (lane (g.B.Bus.state c.args.bus.now) k) (lane (g.B.Bus.state c.ask.new.bus) k) (lane (g.B.Bus.state c.shows_qry.new.bus) k)
     (c.in_ok-ask.ensures.lanes k below) (c.in_ok-shows.ensures.lanes k (omega arith))
 
 pub returns-clause-shows : goal.returns-clause-shows

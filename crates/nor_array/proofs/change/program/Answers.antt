@@ -1,0 +1,13 @@
+use Rattle.std.proofs.Common.{◌≡◌, length, ap, arith}
+use Rattle.nor_array.specs.Array.{ArrayState}
+use Rattle.nor_array.specs.Consts.{state_of}
+use Rattle.nor_array.proofs.Arrays.{stored_programmed}
+use Rattle.nor_array.proofs.change.program.Goals as goal
+
+pub invariant_of-array : goal.invariant_of-array
+invariant_of-array c =
+    let a = c.array.inside in
+    let seen : length c.array.inside.bytes.items ≡ length c.args.array.now.bytes = ap (λ (s : ArrayState). length s.bytes) c.array.view_is in
+    let same : length c.deref_mut.result.now ≡ length c.array.inside.bytes.items = ap length c.deref_mut.ensures.value in
+    stored_programmed (state_of a.consts a.bytes.items a.locks.items a.under a.power a.armed) a.bytes.len c.deref_mut.result.now c.program.new.bytes c.args.at c.args.new.now
+    c.array.invariant c.deref_mut.ensures.value c.deref_mut.ensures.len c.program.ensures (omega arith)

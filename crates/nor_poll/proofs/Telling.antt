@@ -1,0 +1,110 @@
+-- What one status read tells.
+use Rattle.std.proofs.Common.{◌≡◌, ◌+◌, ◌*◌, ◌<◌, ◌≤◌, ◌⊎◌, inl, inr, ℕ, zero, suc, refl, sym, subst, ap, arith, ◌∙◌, Bool, true, false, List, length, MatchBool, ◌≢◌, slice_set, get_or-set_other, get_or-set_same}
+use Rattle.std.proofs.lemmas.Bool.{cases_eq}
+use Rattle.std.proofs.Math.ListN.{length-set}
+use Rattle.nor_cell.specs.Bits.{unit_len}
+use Rattle.nor_cell.specs.Chip.{ChipState, Flags, Mode, Status, Job, Idle, Program, Erase, Pausing, runs, is_held, reads_left}
+use Rattle.nor_cell.specs.Intel.{IntelReads, ShowsMode, bit_if, status_of}
+use Rattle.nor_cell.specs.Look.{look_at, look, job_after}
+use Rattle.nor_cell.specs.Steps.{Reads, reads_of}
+use Rattle.nor_cell.specs.Wiring.{is_wiring}
+use Rattle.nor_cell.specs.declared.device.Device.{Device}
+use Rattle.nor_word.specs.Word.{lane_of}
+use Rattle.nor_bus.specs.Bus.{wide}
+use Rattle.nor_poll.specs.Register.{status_says}
+use Rattle.nor_poll.specs.Told.{TellsStatus, seen, seen_at, Told}
+use Rattle.nor_poll.specs.declared.watch.Seen.{Seen}
+use Rattle.nor_poll.specs.declared.watch.Seen.TheVariants.{Working, Ready}
+
+busy : (held : Bool) → status_says (bit_if 0x40 held) ≡ Working
+busy true = refl
+busy false = refl
+
+rested : (held e p l : Bool) → status_says (status_of held (record { erase = e; program = p; locked = l })) ≡ seen false held (record { erase = e; program = p; locked = l })
+rested true true true true = refl
+rested true true true false = refl
+rested true true false true = refl
+rested true true false false = refl
+rested true false true true = refl
+rested true false true false = refl
+rested true false false true = refl
+rested true false false false = refl
+rested false true true true = refl
+rested false true true false = refl
+rested false true false true = refl
+rested false true false false = refl
+rested false false true true = refl
+rested false false true false = refl
+rested false false false true = refl
+rested false false false false = refl
+
+shown : (working held : Bool) (flags : Flags) (answer : ℕ) → MatchBool working (answer ≡ bit_if 0x40 held) (answer ≡ status_of held flags) → status_says answer ≡ seen working held flags
+shown true held flags answer h = ap status_says h ∙ busy held
+shown false held flags answer h = ap status_says h ∙ rested held flags.erase flags.program flags.locked
+
+-- what still runs had reads left
+ran : (stuck : Bool) (job : Job) → runs (job_after (look_at stuck job)) ≡ true → (0 < reads_left job) ⊎ (stuck ≡ true)
+ran true job h = inr refl
+ran false Idle h = cc
+ran false (Program at bytes zero) h = cc
+ran false (Program at bytes (suc left)) h = inl (omega arith)
+ran false (Erase target zero) h = cc
+ran false (Erase target (suc left)) h = inl (omega arith)
+ran false (Pausing b zero left) h = cc
+ran false (Pausing b (suc wait) left) h = inl (omega arith)
+
+working_if : (working held e p l : Bool) → seen working held (record { erase = e; program = p; locked = l }) ≡ Working → working ≡ true
+working_if true held e p l h = refl
+working_if false held true p l h = cc
+working_if false held false true l h = cc
+working_if false true false false l h = cc
+working_if false false false false l h = cc
+
+-- a chip that is told to work runs a job
+pub working_runs : (working held : Bool) (flags : Flags) → seen working held flags ≡ Working → working ≡ true
+working_runs working held flags h = working_if working held flags.erase flags.program flags.locked h
+
+-- a read of a chip that shows its status tells what the status says
+pub tells : (s : ChipState) (u answer : ℕ) (t : ChipState) → Reads s u answer t → TellsStatus s (status_says answer) t
+tells s u answer t reads shows =
+    let h : IntelReads s u answer t = subst (λ k. reads_of k s u answer t) shows.set reads in
+    let mode : t.mode ≡ Status = ap (λ (x : ChipState). x.mode) h.rest ∙ shows.mode in
+    let job : t.job ≡ job_after (look s) = ap (λ (x : ChipState). x.job) h.rest in
+    let by = subst (λ (m : Mode). MatchBool (runs t.job) (answer ≡ bit_if 0x40 (is_held t.held)) (ShowsMode m t u answer)) mode h.answers in
+    let is : status_says answer ≡ seen (runs t.job) (is_held t.held) t.flags = shown (runs t.job) (is_held t.held) t.flags answer by in
+    record {
+      looked = record { cells = h.cells; rest = h.rest };
+      told = is;
+      had = λ e. ran s.part.stuck s.job (subst (λ (j : Job). runs j ≡ true) job (working_runs (runs t.job) (is_held t.held) t.flags (sym is ∙ e)));
+    }
+
+-- so it is with a lane of a word that was read
+pub told_by : (device : Device) (s t : ChipState) (it : Seen) (u c : ℕ) (word : List ℕ) → wide s ≡ unit_len device → Reads s u (lane_of (wide s) word c) t
+    → it ≡ status_says (lane_of (unit_len device) word c) → TellsStatus s it t
+told_by device s t it u c word same reads is shows =
+    let read = subst (λ (d : ℕ). Reads s u (lane_of d word c) t) same reads in
+    subst (λ (x : Seen). Told s x t) (sym is) (tells s u (lane_of (unit_len device) word c) t read shows)
+
+-- a wiring has at most four lanes, and they fill the word
+pub wired : (width lanes : ℕ) (device : Device) → is_wiring width lanes device ≡ true → (lanes ≤ 4) × (lanes * unit_len device ≡ width)
+wired width lanes device is = grind (arith, is)
+
+-- The first k lanes are told as f says, and nothing yet of the others.
+pub record ToldUpTo (k : ℕ) (f : ℕ → Seen) (lanes : List Seen) : Type 0 where
+  pub size : length lanes ≡ 4
+  pub told : (c : ℕ) → c < k → seen_at lanes c ≡ f c
+  pub past : (c : ℕ) → k ≤ c → seen_at lanes c ≡ Ready
+
+told_at : (k c : ℕ) (f : ℕ → Seen) (lanes : List Seen) (it : Seen) → k < length lanes → ToldUpTo k f lanes → it ≡ f k → c < k + 1 → (c ≡ k) ⊎ (c ≢ k) → seen_at (slice_set lanes k it) c ≡ f c
+told_at k c f lanes it room h e below (inl same) = rw same (get_or-set_same lanes k it Ready room ∙ e)
+told_at k c f lanes it room h e below (inr apart) = get_or-set_other lanes k c it Ready apart ∙ h.told c (omega arith)
+
+-- one more lane is told
+pub told_more : (k : ℕ) (f : ℕ → Seen) (lanes : List Seen) (it : Seen) → k < 4 → ToldUpTo k f lanes → it ≡ f k → ToldUpTo (k + 1) f (slice_set lanes k it)
+told_more k f lanes it room h e =
+    let size : length lanes ≡ 4 = h.size in
+    record {
+      size = length-set lanes k it ∙ size;
+      told = λ c below. told_at k c f lanes it (omega arith) h e below (cases_eq c k);
+      past = λ c le. let apart : c ≢ k = omega arith in get_or-set_other lanes k c it Ready apart ∙ h.past c (omega arith);
+    }

@@ -1,0 +1,16 @@
+use Rattle.std.proofs.Common.{arith, ◌<◌, ◌%◌, ℕ, subst, sym}
+use Rattle.std.proofs.Math.Nat.{mod-lt}
+use Rattle.nor_bus.specs.Bus.{lane, units_of}
+use Rattle.nor_bus.proofs.Driving.{device_of}
+use Rattle.nor_bus.proofs.Sizes.{bus_units}
+use Rattle.nor_poll.proofs.Telling.{told_by}
+use Rattle.nor_poll.proofs.status.status_poll.Goals as goal
+
+pub returns-clause-told : goal.returns-clause-told
+returns-clause-told g c = λ own k below.
+    let old = g.B.Bus.state c.args.bus.now in
+    let size = bus_units g.W.BusWord.WIDTH old c.units.ensures.wired in
+    let within = subst (λ (n : ℕ). c.args.at % n < units_of old) (sym c.units.ensures.count) (mod-lt c.args.at (omega arith)) in
+    let mine = subst (λ (n : ℕ). k < n) own.count below in
+    told_by c.args.g.device (lane old k) (lane (g.B.Bus.state c.read_word.new.bus) k) _ _ k (g.W.BusWord.bytes c.in_ok-word.word)
+    (device_of g.W.BusWord.WIDTH c.args.g.device old k own.bank below) (c.in_ok-word.ensures.lanes within k below) (c.watch_of.ensures.told k mine)

@@ -1,0 +1,41 @@
+-- Programming a bus word, in the words that both command sets use.
+use Rattle.std.specs.Prelude.{◌≡◌, ◌<◌, ◌+◌, ℕ, List, Bool, length, slice_index, bit_and, is_some}
+use Rattle.nor_cell.specs.Bits.{unit_len, unit_bytes}
+use Rattle.nor_cell.specs.Chip.{ChipState, Part, place}
+use Rattle.nor_cell.specs.Look.{break_of, Programmed}
+use Rattle.nor_cell.specs.Table.{left_at_start}
+use Rattle.nor_cell.specs.declared.device.Work.TheVariants.{Word}
+use Rattle.nor_word.specs.Word.{lane_of}
+use Rattle.nor_bus.specs.Bus.{BusState, lane, lanes_of, wide}
+
+-- each lane went from old to new as P says of its part of a word
+abbrev pub EachPart : List ℕ → (ℕ → ChipState → ChipState → Type 0) → BusState → BusState → Type 0
+EachPart word P old new = (c : ℕ) → c < lanes_of old → P (lane_of (wide (lane old c)) word c) (lane old c) (lane new c)
+
+-- how many reads a word shows working
+abbrev pub word_reads : ChipState → ℕ
+word_reads s = left_at_start Word s.part.pace_program s.part.table
+
+-- a program of these bytes from place p on breaks off: a weak unit among them would change
+abbrev pub breaks : ℕ → List ℕ → ChipState → Bool
+breaks p bytes s = is_some (break_of (unit_len s.part.device) s.part.weak p bytes s.cells)
+
+-- what it leaves of the cells
+abbrev pub Stores : ℕ → List ℕ → ChipState → List ℕ → Type 0
+Stores p bytes s cells = Programmed (unit_len s.part.device) s.part.weak p bytes s.cells cells
+
+-- so it is with v at unit u
+abbrev pub unit_breaks : ℕ → ℕ → ChipState → Bool
+unit_breaks u v s = breaks (place s.part u) (unit_bytes s.part.device v) s
+
+abbrev pub StoresUnit : ℕ → ℕ → ChipState → List ℕ → Type 0
+StoresUnit u v s cells = Stores (place s.part u) (unit_bytes s.part.device v) s cells
+
+-- v has no bit that unit u lacks
+abbrev pub OnlyClears : Part → ℕ → ℕ → List ℕ → Type 0
+OnlyClears part u v cells =
+    (i : ℕ) → i < length (unit_bytes part.device v) → bit_and (slice_index cells (place part u + i)) (slice_index (unit_bytes part.device v) i) ≡ slice_index (unit_bytes part.device v) i
+
+-- unit u is v
+abbrev pub HoldsUnit : Part → ℕ → ℕ → List ℕ → Type 0
+HoldsUnit part u v cells = (i : ℕ) → i < length (unit_bytes part.device v) → slice_index cells (place part u + i) ≡ slice_index (unit_bytes part.device v) i

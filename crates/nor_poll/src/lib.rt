@@ -1,0 +1,27 @@
+//! Polls of a bank: what each of its lanes is at.
+//!
+//! A poll reads the bus and tells of each lane whether it works, is ready, holds a suspended erase
+//! or broke off. It tells the truth of each lane by itself, whatever the others do: `Told` in
+//! `specs/Told.antt` says which, by the state of the lane's chip after the poll. A lane is told to
+//! work only where its job had reads left, or the chip is stuck.
+//!
+//! `status_poll` is the poll of set 0001, whose chips show their status register.
+//!
+//! The words that the calls of both command sets share stand here too: `specs/Counted.antt` says how
+//! many cycles a call made, `specs/Reads.antt` what any number of reads make of a chip,
+//! `specs/Losing.antt` what a call that is given up leaves of one; `Halt`, `LaneSet` and `Lanes` are
+//! what those calls answer and take.
+//!
+//! It works over any bus, and stands on nor_bus for the cycles and on nor_word for the lanes of a
+//! word.
+#![tactic(auto)]
+
+mod lanes;
+mod status;
+#[cfg(test)]
+mod tests;
+mod watch;
+
+pub use lanes::{Halt, LaneSet, LaneState, Lanes};
+pub use status::status_poll;
+pub use watch::{Broke, Seen, Watch};

@@ -1,0 +1,7 @@
+pub mod Answering
+pub mod Grammar
+pub mod Laws
+pub mod Numbers
+pub mod Script
+pub mod Puts
+pub mod Report

@@ -1,0 +1,428 @@
+//! What scripts say, which lines are bad and why, and what is reported.
+use crate::{Line, LineKind, ScriptError, Word, parse_script, put_entry, put_totals};
+use nor_array::{Halted, Op, Reply, make_bytes};
+use nor_io::{MemSink, SinkError};
+use std::alloc::Global;
+use std::process::Abort;
+use std::test::Fail;
+
+// A script of one line, which says this.
+fn says(rt: &impl Abort, alloc: Global, text: &str, caller: u8, word: Word) -> Result<(), Fail> {
+    assert!(rt; text.len() < 1000);
+    let script = parse_script(alloc, text.as_bytes(), false)?;
+    let wanted = Line {
+        caller,
+        number: 1,
+        word,
+    };
+    assert!(rt; script.lines().len() == 1 && script.lines()[0] == wanted);
+    Ok(())
+}
+
+fn program(alloc: Global, at: u32, new: &[u8]) -> Result<Op, Fail> {
+    let new = make_bytes(alloc, new)?;
+    Ok(Op::Program { at, new })
+}
+
+#[test]
+fn each_form_says_its_call(rt: HostRuntime) -> Result<(), Fail> {
+    let alloc = rt.alloc();
+    let read = Op::Read { at: 16, len: 4 };
+    says(&rt, alloc, "1 read 0x10 4", 1, Word::Call(read))?;
+    let new = program(alloc, 5, &[0x0F, 0xAB])?;
+    says(&rt, alloc, "8 program 5 0FaB\n", 8, Word::Call(new))?;
+    let none = program(alloc, 5, &[])?;
+    says(&rt, alloc, "0x8 program 0x5 -", 8, Word::Call(none))?;
+    says(&rt, alloc, "2 erase 7", 2, Word::Erase { block: 7 })?;
+    let open = Op::EraseOpen { block: 7 };
+    says(&rt, alloc, "2 open 7", 2, Word::Call(open))?;
+    says(&rt, alloc, "3 poll", 3, Word::Call(Op::Poll))?;
+    Ok(())
+}
+
+#[test]
+fn locks_cuts_and_reboots_are_read(rt: HostRuntime) -> Result<(), Fail> {
+    let alloc = rt.alloc();
+    let lock = Op::Lock { block: 0 };
+    says(&rt, alloc, "4 lock 0", 4, Word::Call(lock))?;
+    let unlock = Op::Unlock { block: 1 };
+    says(&rt, alloc, "4 unlock 0x1", 4, Word::Call(unlock))?;
+    let locked = Op::IsLocked { block: 2 };
+    says(&rt, alloc, "4 locked 2", 4, Word::Call(locked))?;
+    let cut = Op::Arm {
+        after: 9,
+        mask: 255,
+    };
+    says(&rt, alloc, "cut 9 0xfF", 0, Word::Call(cut))?;
+    says(&rt, alloc, "reboot", 0, Word::Call(Op::PowerOn))?;
+    let ends = Op::Read {
+        at: u32::MAX,
+        len: u32::MAX,
+    };
+    says(
+        &rt,
+        alloc,
+        "1 read 4294967295 0xFFFFffff",
+        1,
+        Word::Call(ends),
+    )
+}
+
+// The text is refused with this error.
+fn refuses(
+    rt: &impl Abort,
+    alloc: Global,
+    race: bool,
+    text: &str,
+    error: ScriptError,
+) -> Result<(), Fail> {
+    assert!(rt; text.len() < 1000);
+    assert!(rt; parse_script(alloc, text.as_bytes(), race).err() == Some(error));
+    Ok(())
+}
+
+// Each line is bad in this way.
+fn are_bad(
+    rt: &impl Abort,
+    alloc: Global,
+    race: bool,
+    kind: LineKind,
+    lines: &[&str],
+) -> Result<(), Fail> {
+    for line in lines {
+        refuses(
+            rt,
+            alloc,
+            race,
+            line,
+            ScriptError::BadLine { line: 1, kind },
+        )?;
+    }
+    Ok(())
+}
+
+#[test]
+fn bad_lines_name_the_first_check_that_fails(rt: HostRuntime) -> Result<(), Fail> {
+    let alloc = rt.alloc();
+    let bytes = ["\tfoo", "9 read\u{7f}", "1 read é", "1 read 0 1\r"];
+    are_bad(&rt, alloc, false, LineKind::Bytes, &bytes)?;
+    let words = [
+        "zz",
+        "Cut",
+        "1",
+        "1 reed",
+        "1 cut 0 0",
+        "1  read 0 1",
+        " 1 poll",
+        "-1 poll",
+    ];
+    are_bad(&rt, alloc, false, LineKind::Word, &words)?;
+    let counts = [
+        "1 read 0x0",
+        "1 read zz",
+        "1 read  0 1",
+        "1 poll ",
+        "cut 0",
+        "reboot 1",
+        "1 read 0 1 2",
+    ];
+    are_bad(&rt, alloc, false, LineKind::Count, &counts)?;
+    let numbers = [
+        "1 read zz 1",
+        "1 read 4294967296 1",
+        "1 read 00000000001 1",
+        "1 read 0x 1",
+        "1 read 0x100000000 1",
+        "1 read 0X1 1",
+        "1 program zz abc",
+        "1 open ",
+        "cut 0 256",
+        "1 read 0x0 ",
+    ];
+    are_bad(&rt, alloc, false, LineKind::Number, &numbers)?;
+    let texts = [
+        "1 program 0x0 abc",
+        "1 program 0x0 ",
+        "1 program 0x0 0g",
+        "1 program 0x0 --",
+    ];
+    are_bad(&rt, alloc, false, LineKind::Hex, &texts)?;
+    let places = ["1 open 0", "1 poll", "reboot"];
+    are_bad(&rt, alloc, true, LineKind::NotHere, &places)?;
+    are_bad(&rt, alloc, true, LineKind::Number, &["1 open zz"])?;
+    are_bad(&rt, alloc, true, LineKind::Count, &["reboot 1", "1 poll 1"])
+}
+
+#[test]
+fn the_first_bad_line_is_named(rt: HostRuntime) -> Result<(), Fail> {
+    let alloc = rt.alloc();
+    for text in ["9 read 0x0 1", "0 reed", "9", "4294967295 poll"] {
+        refuses(&rt, alloc, false, text, ScriptError::BadCaller { line: 1 })?;
+    }
+    let word = ScriptError::BadLine {
+        line: 2,
+        kind: LineKind::Word,
+    };
+    refuses(&rt, alloc, false, "# a comment\n1 reed 0x0 1", word)?;
+    let late = ScriptError::BadLine {
+        line: 5,
+        kind: LineKind::NotHere,
+    };
+    refuses(
+        &rt,
+        alloc,
+        true,
+        "cut 0 0\n\n#\n1 read 0 1\ncut 0 0\n9 poll",
+        late,
+    )?;
+    let second = ScriptError::BadCaller { line: 3 };
+    refuses(&rt, alloc, false, "1 poll\n\n9 poll\nzz", second)
+}
+
+// The numbers of the command lines.
+fn numbers(
+    rt: &impl Abort,
+    alloc: Global,
+    race: bool,
+    text: &str,
+    wanted: &[u32],
+) -> Result<(), Fail> {
+    assert!(rt; text.len() < 1000);
+    let script = parse_script(alloc, text.as_bytes(), race)?;
+    assert!(rt; script.lines().len() == wanted.len());
+    for (line, number) in script.lines().iter().zip(wanted) {
+        assert!(rt; line.number == *number);
+    }
+    Ok(())
+}
+
+#[test]
+fn empty_lines_and_comments_are_counted_and_skipped(rt: HostRuntime) -> Result<(), Fail> {
+    let alloc = rt.alloc();
+    numbers(&rt, alloc, true, "", &[])?;
+    numbers(&rt, alloc, false, "\n\n# é\n", &[])?;
+    numbers(&rt, alloc, false, "1 poll\n\n#\n\n2 poll", &[1, 5])?;
+    numbers(
+        &rt,
+        alloc,
+        true,
+        "cut 1 2\ncut 0 0\n3 read 0 0\n3 erase 1\n",
+        &[1, 2, 3, 4],
+    )
+}
+
+#[test]
+fn one_line_more_than_a_script_has_is_too_many(rt: HostRuntime) -> Result<(), Fail> {
+    let alloc = rt.alloc();
+    let mut text = Vec::new(alloc);
+    for _ in 0..65_536 {
+        text.extend_from_slice(b"1 poll\n")?;
+    }
+    assert!(rt; text.len() < 1 << 20);
+    assert!(rt; parse_script(alloc, &text, false)?.lines().len() == 65_536);
+    text.extend_from_slice(b"# more\n\n\t")?;
+    assert!(rt; text.len() < 1 << 20);
+    assert!(rt; parse_script(alloc, &text, false).err() == Some(ScriptError::TooManyLines));
+    Ok(())
+}
+
+// The line of entry 7, of caller 1.
+fn reports(
+    rt: &impl Abort,
+    alloc: Global,
+    op: &Op,
+    reply: Reply,
+    bytes: &[u8],
+    line: &str,
+) -> Result<(), Fail> {
+    let mut sink = MemSink::new(alloc, &[])?;
+    put_entry(&mut sink, 7, 1, op, reply, bytes)?;
+    assert!(rt; sink.taken() == line.as_bytes());
+    Ok(())
+}
+
+#[test]
+fn entries_are_reported(rt: HostRuntime) -> Result<(), Fail> {
+    let alloc = rt.alloc();
+    let read = Op::Read { at: 0, len: 3 };
+    reports(
+        &rt,
+        alloc,
+        &read,
+        Reply::Done,
+        &[0xFE, 2, 0xFD],
+        "7 1 read 0x0 3 -> fe02fd\n",
+    )?;
+    reports(&rt, alloc, &read, Reply::Done, &[], "7 1 read 0x0 3 -> -\n")?;
+    reports(
+        &rt,
+        alloc,
+        &read,
+        Reply::TooLong,
+        &[],
+        "7 1 read 0x0 3 -> too-long\n",
+    )?;
+    let new = program(alloc, 0xABCDEF, &[0x0F])?;
+    reports(
+        &rt,
+        alloc,
+        &new,
+        Reply::Done,
+        &[],
+        "7 1 program 0xabcdef 0f -> done\n",
+    )?;
+    let failed = Reply::Failed {
+        from: 8,
+        to: 0xC,
+        lanes: 2,
+    };
+    reports(
+        &rt,
+        alloc,
+        &new,
+        failed,
+        &[1, 2, 3, 4],
+        "7 1 program 0xabcdef 0f -> failed 0x8 0xc lanes 2\n",
+    )?;
+    let none = program(alloc, u32::MAX, &[])?;
+    reports(
+        &rt,
+        alloc,
+        &none,
+        Reply::OutOfRange,
+        &[],
+        "7 1 program 0xffffffff - -> out-of-range\n",
+    )
+}
+
+#[test]
+fn each_reply_has_its_word(rt: HostRuntime) -> Result<(), Fail> {
+    let alloc = rt.alloc();
+    let open = Op::EraseOpen { block: 3 };
+    reports(
+        &rt,
+        alloc,
+        &open,
+        Reply::Opened,
+        &[],
+        "7 1 open 3 -> opened\n",
+    )?;
+    reports(
+        &rt,
+        alloc,
+        &open,
+        Reply::Occupied { block: 12 },
+        &[],
+        "7 1 open 3 -> occupied 12\n",
+    )?;
+    reports(
+        &rt,
+        alloc,
+        &open,
+        Reply::Busy { block: 3 },
+        &[],
+        "7 1 open 3 -> busy 3\n",
+    )?;
+    reports(
+        &rt,
+        alloc,
+        &open,
+        Reply::Locked { block: 3 },
+        &[],
+        "7 1 open 3 -> locked 3\n",
+    )?;
+    reports(
+        &rt,
+        alloc,
+        &Op::Poll,
+        Reply::Erased,
+        &[],
+        "7 1 poll -> erased\n",
+    )?;
+    reports(
+        &rt,
+        alloc,
+        &Op::Poll,
+        Reply::NotYet,
+        &[],
+        "7 1 poll -> not-yet\n",
+    )?;
+    reports(
+        &rt,
+        alloc,
+        &Op::Poll,
+        Reply::Nothing,
+        &[],
+        "7 1 poll -> nothing\n",
+    )
+}
+
+#[test]
+fn locks_and_halts_have_their_words(rt: HostRuntime) -> Result<(), Fail> {
+    let alloc = rt.alloc();
+    let locked = Op::IsLocked { block: 0 };
+    reports(
+        &rt,
+        alloc,
+        &locked,
+        Reply::Bit(true),
+        &[],
+        "7 1 locked 0 -> yes\n",
+    )?;
+    reports(
+        &rt,
+        alloc,
+        &locked,
+        Reply::Bit(false),
+        &[],
+        "7 1 locked 0 -> no\n",
+    )?;
+    let lock = Op::Lock { block: 9 };
+    reports(
+        &rt,
+        alloc,
+        &lock,
+        Reply::NoLocks,
+        &[],
+        "7 1 lock 9 -> no-locks\n",
+    )?;
+    let off = Reply::Halted(Halted::Off { after: 20 });
+    let unlock = Op::Unlock { block: 9 };
+    reports(&rt, alloc, &unlock, off, &[], "7 1 unlock 9 -> off 20\n")?;
+    let stuck = Reply::Halted(Halted::Stuck { lane: 1 });
+    reports(
+        &rt,
+        alloc,
+        &Op::PowerOn,
+        stuck,
+        &[],
+        "7 1 reboot -> stuck 1\n",
+    )?;
+    let cut = Op::Arm { after: 0, mask: 15 };
+    reports(
+        &rt,
+        alloc,
+        &cut,
+        Reply::Done,
+        &[],
+        "7 1 cut 0 0x0f -> done\n",
+    )
+}
+
+#[test]
+fn totals_end_a_report_and_faults_leave_a_first_part(rt: HostRuntime) -> Result<(), Fail> {
+    let alloc = rt.alloc();
+    let mut sink = MemSink::new(alloc, &[3])?;
+    put_totals(&mut sink, &[(0, 1), (u32::MAX, 0)], 11)?;
+    assert!(rt;
+        sink.taken()
+            == "lane 0 suspends 0 erases 1\nlane 1 suspends 4294967295 erases 0\nhistory 11\n".as_bytes()
+    );
+    assert!(rt; put_totals(&mut sink, &[], 0) == Err(SinkError::Fault));
+    let mut second = MemSink::new(alloc, &[1])?;
+    assert!(rt;
+        put_entry(&mut second, 0, 2, &Op::Poll, Reply::Nothing, &[]) == Err(SinkError::Fault)
+    );
+    assert!(rt; second.taken() == "0 2 poll".as_bytes());
+    Ok(())
+}

@@ -1,0 +1,6 @@
+mod Beginning
+mod Commanding
+mod Four
+mod Programming
+mod Waiting
+mod Wording

@@ -1,0 +1,141 @@
+//! Files of banks.
+use std::alloc::{AllocError, Global};
+
+/// The bytes of a query table from its word 0x10 on, behind which all are 0.
+type Table = [u8; 57];
+
+// A chip of set 0001 with 8 KiB.
+const INTEL: Table = [
+    0x51, 0x52, 0x59, 0x01, 0x00, 0x31, 0x00, 0x00, 0x00, 0x00, 0x00, 0x27, 0x36, 0x00, 0x00, 0x04,
+    0x06, 0x0a, 0x00, 0x02, 0x02, 0x02, 0x00, 0x0d, 0x01, 0x00, 0x05, 0x00, 0x01, 0x07, 0x00, 0x04,
+    0x00, 0x50, 0x52, 0x49, 0x31, 0x31, 0x22, 0x00, 0x00, 0x00, 0x01, 0, 0, 0, 0, 0, 0, 0, 0, 0, 0,
+    0, 0, 0, 0,
+];
+
+// A chip of set 0002 with 8 KiB, of either interface.
+const AMD: Table = [
+    0x51, 0x52, 0x59, 0x02, 0x00, 0x31, 0x00, 0x00, 0x00, 0x00, 0x00, 0x27, 0x36, 0x00, 0x00, 0x04,
+    0x06, 0x0a, 0x00, 0x02, 0x02, 0x02, 0x00, 0x0d, 0x02, 0x00, 0x05, 0x00, 0x01, 0x07, 0x00, 0x04,
+    0x00, 0x50, 0x52, 0x49, 0x31, 0x33, 0x00, 0x02, 0x01, 0x00, 0x08, 0x00, 0x00, 0x00, 0x00, 0x00,
+    0x02, 0, 0, 0, 0, 0, 0, 0, 0,
+];
+
+// A chip of set 0002 with 4 KiB that boots from its top.
+const TOP: Table = [
+    0x51, 0x52, 0x59, 0x02, 0x00, 0x39, 0x00, 0x00, 0x00, 0x00, 0x00, 0x27, 0x36, 0x00, 0x00, 0x04,
+    0x06, 0x0a, 0x00, 0x02, 0x02, 0x02, 0x00, 0x0c, 0x01, 0x00, 0x05, 0x00, 0x03, 0x00, 0x00, 0x00,
+    0x00, 0x06, 0x00, 0x00, 0x00, 0x02, 0x00, 0x04, 0x00, 0x50, 0x52, 0x49, 0x31, 0x33, 0x00, 0x02,
+    0x01, 0x00, 0x08, 0x00, 0x00, 0x00, 0x00, 0x00, 0x03,
+];
+
+/// A bank: the bus width, the device's code and the lanes, its tables and the bytes of each chip, and
+/// whether lane 1's cells fall from 255, as the other lanes' rise from 0.
+#[derive(Clone, Copy)]
+pub struct Image {
+    width: u8,
+    device: u8,
+    lanes: u8,
+    table: Table,
+    size: u32,
+    falls: bool,
+}
+
+// A bank of chips of 8 KiB whose cells rise.
+fn of_chips(width: u8, device: u8, lanes: u8, table: Table) -> Image {
+    Image {
+        width,
+        device,
+        lanes,
+        table,
+        size: 8192,
+        falls: false,
+    }
+}
+
+pub fn one_x16() -> Image {
+    of_chips(2, 1, 1, INTEL)
+}
+
+pub fn four_x16() -> Image {
+    of_chips(8, 1, 4, INTEL)
+}
+
+pub fn one_in_byte_mode() -> Image {
+    of_chips(1, 2, 1, INTEL)
+}
+
+pub fn four_amd_x16() -> Image {
+    of_chips(8, 1, 4, AMD)
+}
+
+pub fn one_amd_in_byte_mode() -> Image {
+    of_chips(1, 2, 1, AMD)
+}
+
+pub fn two_x8() -> Image {
+    Image {
+        falls: true,
+        ..of_chips(2, 0, 2, INTEL)
+    }
+}
+
+pub fn top_boot() -> Image {
+    Image {
+        size: 4096,
+        ..of_chips(2, 1, 1, TOP)
+    }
+}
+
+fn push_zeros(file: &mut Vec<u8>, count: u32) -> Result<(), AllocError> {
+    for _ in 0..count {
+        file.push(0)?;
+    }
+    Ok(())
+}
+
+// The cells of a chip.
+fn push_cells(file: &mut Vec<u8>, size: u32, falls: bool) -> Result<(), AllocError> {
+    for place in 0..size {
+        let rise = (place % 256) as u8;
+        file.push(if falls { 255 - rise } else { rise })?;
+    }
+    Ok(())
+}
+
+// Paces 2, 4 and 2, and no weak places.
+fn push_lane(file: &mut Vec<u8>, image: &Image, falls: bool) -> Result<(), AllocError> {
+    file.extend_from_slice(&[2, 0, 0, 0, 4, 0, 0, 0, 2, 0, 0, 0, 0, 0, 0, 0, 0, 0, 0, 0])?;
+    push_zeros(file, 0x10)?;
+    file.extend_from_slice(&image.table)?;
+    push_zeros(file, 512 - 0x10 - 57)?;
+    file.extend_from_slice(&image.size.to_le_bytes())?;
+    push_cells(file, image.size, falls)
+}
+
+pub fn file_of(alloc: Global, image: Image) -> Result<Vec<u8>, AllocError> {
+    let mut file = Vec::new(alloc);
+    file.extend_from_slice(b"NORBANK1")?;
+    file.extend_from_slice(&[image.width, image.device, image.lanes, 0])?;
+    for lane in 0..image.lanes {
+        push_lane(&mut file, &image, image.falls && lane == 1)?;
+    }
+    Ok(file)
+}
+
+/// The first `len` bytes of a file, or all that it has.
+pub fn first_part(file: &[u8], len: usize) -> &[u8] {
+    if len <= file.len() {
+        &file[..len]
+    } else {
+        file
+    }
+}
+
+/// The file with another byte at a place.
+pub fn changed(file: Vec<u8>, at: usize, byte: u8) -> Vec<u8> {
+    let mut file = file;
+    if let Some(there) = file.get_mut(at) {
+        *there = byte;
+    }
+    file
+}
