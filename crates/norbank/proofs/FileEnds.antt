@@ -9,7 +9,8 @@ use Rattle.nor_image.specs.declared.error.ImageError.{ImageError}
 use Rattle.nor_image.specs.declared.error.ImageError.TheVariants.{BadMagic, BadHeader, Truncated, Trailing, SizeDiffers, NoMemory}
 use Rattle.nor_io.specs.Files.{FileMap, HasFile, IsAbsent, IsTooLarge}
 use Rattle.norbank.specs.Endings.{refused_ending, chips_before, chips_of_file, IsBankEnding}
-use Rattle.norbank.specs.Says.{Taken, Says, EndsIn, BankSays, FileSays, IsFound}
+use Rattle.norbank.specs.Says.{Says, EndsIn, BankSays, FileSays, IsFound}
+use Rattle.nor_script.specs.Puts.{Taken}
 use Rattle.norbank.specs.declared.words.Task.{Task}
 
 -- ---- the chips of a file

@@ -7,7 +7,7 @@ use Rattle.nor_bus.specs.Bus.{BusState, IsBank, units_of, bank_bytes}
 use Rattle.nor_io.specs.Files.{Appends}
 use Rattle.nor_io.specs.declared.sink.SinkError.{SinkError}
 use Rattle.norbank.specs.Open.{IsOpen}
-use Rattle.norbank.specs.Says.{PutsText}
+use Rattle.nor_script.specs.Puts.{PutsText}
 use Rattle.norbank.proofs.Putting.{puts_then, puts_stop}
 use Rattle.norbank.proofs.BankBytes.{encode-add, encode-nil}
 

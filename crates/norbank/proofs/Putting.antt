@@ -7,7 +7,8 @@ use Rattle.nor_io.specs.Files.{Rose, Appends}
 use Rattle.nor_io.proofs.Pieces.{Appends-append, AppendsPart-append, AppendsPart-more}
 use Rattle.norbank.specs.Endings.{Ending, ends, refused_ending}
 use Rattle.norbank.specs.Text.{line_of}
-use Rattle.norbank.specs.Says.{Taken, PutsText, Says}
+use Rattle.norbank.specs.Says.{Says}
+use Rattle.nor_script.specs.Puts.{Taken, PutsText}
 use Rattle.norbank.specs.Status.{AfterPut}
 
 rose_later : (f g h : ℕ) → f ≤ g → Rose g h → Rose f h

@@ -20,7 +20,8 @@ use Rattle.nor_io.specs.Files.{FileMap, Rose, Appends}
 use Rattle.norbank.specs.Answering.{IsWithin, CanAnswer, IsDone}
 use Rattle.norbank.specs.Endings.{Ending, ends, refused_ending, unfound_ending, range_ending, task_ending, chips_of_file, IsBankEnding, IsFileEnding, IsNamedEnding}
 use Rattle.norbank.specs.Open.{IsAccepted, PrintsImage, ShowsImage}
-use Rattle.norbank.specs.Says.{Taken, Says, SaysOrLacks, EndsIn, BankSays, FileSays, IsFound, TaskEnds}
+use Rattle.norbank.specs.Says.{Says, SaysOrLacks, EndsIn, BankSays, FileSays, IsFound, TaskEnds}
+use Rattle.nor_script.specs.Puts.{Taken}
 use Rattle.norbank.specs.Text.{hex_line, out_of_range, too_large, no_memory, absent, read_fault}
 use Rattle.norbank.specs.declared.words.Task.{Task}
 use Rattle.norbank.specs.declared.words.Task.TheVariants.{Read, Show}

@@ -4,7 +4,7 @@ use Rattle.nor_bus.specs.Bus.{bank_size}
 use Rattle.nor_io.specs.Files.{Rose}
 use Rattle.norbank.specs.Endings.{chips_of_file}
 use Rattle.norbank.specs.Open.{IsAccepted}
-use Rattle.norbank.specs.Says.{Taken}
+use Rattle.nor_script.specs.Puts.{Taken}
 use Rattle.norbank.specs.declared.words.Task.{Task}
 use Rattle.norbank.specs.declared.words.Task.TheVariants.{Read, Show}
 

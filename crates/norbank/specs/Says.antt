@@ -1,33 +1,19 @@
 -- What was put where a command ends, and how it ended.
-use Rattle.std.specs.Prelude.{◌≡◌, ◌⊎◌, ℕ, List, Option, Some, None, Result, Ok, Err}
-use Rattle.nor_io.specs.declared.sink.SinkError.{SinkError}
-use Rattle.nor_io.specs.declared.sink.SinkError.TheVariants.{Fault, NoMemory}
+use Rattle.std.specs.Prelude.{◌≡◌, ◌⊎◌, ℕ, List, Option, Some, None}
+use Rattle.nor_cell.specs.Chip.{ChipState}
+use Rattle.nor_cell.specs.declared.device.Device.{Device}
 use Rattle.nor_io.specs.Files.{FileMap, Rose, Appends, AppendsPart}
+use Rattle.nor_script.specs.Puts.{Taken}
 use Rattle.norbank.specs.Endings.{Ending, IsBankEnding, IsFileEnding, IsNamedEnding, ends}
 use Rattle.norbank.specs.Text.{read_fault, no_memory}
 use Rattle.norbank.specs.declared.words.Task.{Task}
-use Rattle.nor_cell.specs.Chip.{ChipState}
-use Rattle.nor_cell.specs.declared.device.Device.{Device}
 
--- what a sink has taken, and its count of faults, before and after
-pub record Taken : Type 0 where
-  pub before : Option (List ℕ)
-  pub after : Option (List ℕ)
-  pub faults_before : ℕ
-  pub faults_after : ℕ
-
--- by what is told of it before and after, and the counts
+-- what a sink has taken, by what it tells of that before and after, and its counts of faults
 abbrev pub took : Option (List ℕ) → Option (List ℕ) → ℕ → ℕ → Taken
 took before after faults_before faults_after =
     record { before = before; after = after; faults_before = faults_before; faults_after = faults_after }
 
--- The text was put; or the output failed, which its count tells, or lacked memory, and then a first part of it was.
-abbrev pub PutsText : List ℕ → Taken → Result (Unit {0}) SinkError → Type 0
-PutsText text taken (Ok done) = Appends taken.before text taken.after
-PutsText text taken (Err Fault) = Rose taken.faults_before taken.faults_after × AppendsPart taken.before text taken.after
-PutsText text taken (Err NoMemory) = AppendsPart taken.before text taken.after
-
--- The same of a status: it is the ending's, or 7 where the output failed, or 9 where it lacked memory.
+-- A text was put with a status: it is the ending's, or 7 where the output failed, or 9 where it lacked memory.
 abbrev pub Says : Ending → Taken → ℕ → Type 0
 Says ending taken status =
     ((status ≡ ending.code) × Appends taken.before ending.text taken.after)

@@ -3,7 +3,8 @@ ghost use Rattle.hex.specs.Hex.{encode_lower};
 ghost use Rattle.nor_cell.specs.declared.device.Device.{Device};
 ghost use Rattle.nor_bus.specs.Bus.{IsBank, units_of, bank_bytes};
 ghost use Rattle.norbank.specs.Open.{IsOpen};
-ghost use Rattle.norbank.specs.Says.{PutsText, took};
+ghost use Rattle.norbank.specs.Says.{took};
+ghost use Rattle.nor_script.specs.Puts.{PutsText};
 ghost use Rattle.norbank.specs.Text.{hex_line};
 
 use crate::status::put_text;

@@ -1,6 +1,7 @@
 ghost use Rattle.std.specs.Prelude.{◌≡◌, ◌≤◌, ◌++◌, ℕ, List, codes};
 ghost use Rattle.norbank.specs.Endings.{ends};
-ghost use Rattle.norbank.specs.Says.{PutsText, Says, took};
+ghost use Rattle.norbank.specs.Says.{Says, took};
+ghost use Rattle.nor_script.specs.Puts.{PutsText};
 ghost use Rattle.norbank.specs.Text.{line_of};
 ghost use Rattle.norbank.specs.Status.{AfterPut};
 

@@ -1,7 +1,7 @@
 use Rattle.std.proofs.Common.{ℕ, List, Err, subst, sym, codes, arith}
 use Rattle.hex.specs.Hex.{encode_lower}
 use Rattle.nor_bus.specs.Bus.{bank_bytes}
-use Rattle.norbank.specs.Says.{PutsText}
+use Rattle.nor_script.specs.Puts.{PutsText}
 use Rattle.norbank.proofs.BankBytes.{line_some}
 use Rattle.norbank.proofs.Putting.{puts_then, puts_stop}
 use Rattle.norbank.proofs.printing.print_bytes.Goals as goal

@@ -1,7 +1,7 @@
 use Rattle.std.proofs.Common.{◌∙◌, ℕ, List, ap, subst}
 use Rattle.hex.specs.Hex.{encode_lower}
 use Rattle.nor_bus.specs.Bus.{bank_bytes}
-use Rattle.norbank.specs.Says.{PutsText}
+use Rattle.nor_script.specs.Puts.{PutsText}
 use Rattle.norbank.proofs.BankBytes.{bytes_of, still_open}
 use Rattle.norbank.proofs.printing.put_piece.Goals as goal
 

@@ -2,7 +2,7 @@ use Rattle.std.proofs.Common.{◌≡◌, ◌≤◌, ◌+◌, ℕ, Ok, Err, subst
 use Rattle.std.proofs.lemmas.List.{length-take}
 use Rattle.hex.specs.Hex.{encode_lower}
 use Rattle.nor_bus.specs.Bus.{bank_bytes}
-use Rattle.norbank.specs.Says.{PutsText}
+use Rattle.nor_script.specs.Puts.{PutsText}
 use Rattle.norbank.proofs.Piecewise.{printed_none, printed_more, printed_stop}
 use Rattle.norbank.proofs.printing.put_pieces.Goals as goal
 
