@@ -1,14 +1,15 @@
 ghost use Rattle.std.specs.Prelude.{◌≡◌, ◌<◌, ◌≤◌, ◌+◌, ◌-◌, ◌*◌, ◌/◌, ◌^◌, ◌⊎◌, ℕ, length, slice_index, OnOk, OnErr};
 ghost use Rattle.nor_cell.specs.declared.device.Device.{Device};
 ghost use Rattle.nor_bus.specs.Bus.{units_of};
-ghost use Rattle.nor_bus.specs.Driven.{Went, Lost};
+ghost use Rattle.nor_bus.specs.Driven.{EachLane, Went, Lost};
+ghost use Rattle.nor_poll.specs.Losing.{Darkens};
 ghost use Rattle.nor_bank.specs.Ranges.{words_met, CanRead, ReadsRange};
 
 use nor_bus::{Bus, Off, read_word};
 use nor_word::BusWord;
 
 // The bus word in which a byte of the bank lies.
-fn word_of<W: BusWord>(at: u32) -> u32
+pub(crate) fn word_of<W: BusWord>(at: u32) -> u32
     ensures { result ≡ at / W.WIDTH }
 {
     at / W::WIDTH as u32
@@ -42,6 +43,7 @@ pub fn read_range<W: BusWord, B: Bus<W>>(bus: &mut B, at: u32, into: &mut [u8]) 
     ensures reads { OnOk result ((device : Device) → CanRead W.WIDTH device (B.state bus.old) at (length into.old) → ReadsRange device (B.state bus.old) (B.state bus.new) at into.new) }
     ensures went { OnOk result (Went (words_met at (length into.old) W.WIDTH) (words_met at (length into.old) W.WIDTH) (B.state bus.old) (B.state bus.new)) }
     ensures lost { OnErr result (Lost (words_met at (length into.old) W.WIDTH) (B.state bus.old) (B.state bus.new)) }
+    ensures dark { OnErr result ((device : Device) → CanRead W.WIDTH device (B.state bus.old) at (length into.old) → EachLane Darkens (B.state bus.old) (B.state bus.new)) }
     ensures units { units_of (B.state bus.new) ≡ units_of (B.state bus.old) }
 {
     let first = word_of::<W>(at);

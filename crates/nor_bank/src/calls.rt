@@ -1,0 +1,135 @@
+ghost use Rattle.std.specs.Prelude.{◌≡◌, ◌≢◌, ◌<◌, ◌≤◌, ◌+◌, ◌-◌, ◌*◌, ◌/◌, ℕ, length, [], Option, Some, None};
+ghost use Rattle.nor_cell.specs.declared.device.Work.TheVariants.{Word as WordWork};
+ghost use Rattle.nor_query.specs.Derived.{limit_of};
+ghost use Rattle.nor_bus.specs.Bus.{more};
+ghost use Rattle.nor_bus.specs.Driven.{EachLane, Went};
+ghost use Rattle.nor_array.specs.Array.{ArrayState};
+ghost use Rattle.nor_array.specs.Admits.{first_locked};
+ghost use Rattle.nor_array.specs.declared.entry.Halted.{Halted as HaltCause};
+ghost use Rattle.nor_array.specs.declared.entry.Halted.TheVariants.{Off as NoPower, Stuck as StuckAt};
+ghost use Rattle.nor_array.specs.declared.entry.Reply.{Reply};
+ghost use Rattle.nor_array.specs.declared.entry.Op.TheVariants.{Read, Program};
+ghost use Rattle.nor_array.specs.declared.entry.Reply.TheVariants.{Done as DoneReply, Halted as HaltedReply};
+ghost use Rattle.nor_bank.specs.Calls.{Makes, MakesEntry, entry_of};
+ghost use Rattle.nor_bank.specs.Programs.{Lasts};
+ghost use Rattle.nor_bank.specs.Ranges.{words_met};
+ghost use Rattle.nor_bank.specs.Stands.{Stands};
+ghost use Rattle.nor_bank.specs.State.{size_of};
+ghost use Rattle.nor_bank.specs.Work.{Asks, range_refusal, refusal_now, with_bus, Stays, Keeps, IsBuilt};
+
+use crate::Bank;
+use crate::programming::{failed, program_range};
+use crate::reading::read_range;
+use nor_array::{Halted, Reply};
+use nor_bus::{Bus, Off, read_word};
+use nor_cell::Work;
+use nor_poll::Halt;
+use nor_word::BusWord;
+
+/// The most bytes of a read or a program.
+pub const MAX_LEN: usize = 4096;
+
+impl<W: BusWord, B: Bus<W>> Bank<W, B> {
+    // What the bank answers to a range of so many bytes without asking the chips.
+    fn refuses(&self, at: u32, len: usize) -> Option<Reply>
+        ensures { result ≡ refusal_now self.now at len }
+    {
+        if u64::from(at) + len as u64 > u64::from(self.size()) {
+            return Some(Reply::OutOfRange);
+        }
+        if len > MAX_LEN {
+            return Some(Reply::TooLong);
+        }
+        self.halted.map(Reply::Halted)
+    }
+
+    // Where power was lost a cycle is tried, and fails.
+    fn stay(&mut self)
+        ensures same { self.new ≡ with_bus self.old (self.new).bus }
+        ensures stays { Stays (self.old).halted (self.old).bus (self.new).bus }
+    {
+        if let Some(Halted::Off { .. }) = self.halted {
+            let _tried = read_word::<W, B>(&mut self.bus, 0);
+        }
+    }
+
+    // A first halt is kept.
+    fn halt(&mut self, cause: Halted) -> Reply
+        ensures reply { result ≡ HaltedReply cause }
+        ensures kept { self.new ≡ record self.old { halted = Some cause } }
+    {
+        self.halted = Some(cause);
+        Reply::Halted(cause)
+    }
+
+    /// Reads the bytes of the bank from `at` on. `Done`: `into` has them, and one bus cycle was made for
+    /// each bus word that they meet.
+    ///
+    /// `OutOfRange` comes exactly where the bank lacks some of the bytes, else `TooLong` exactly where
+    /// there are more than [`MAX_LEN`]; both leave everything as it was, without a cycle. A halt of an
+    /// earlier call is answered again. A read of no bytes is `Done` without a cycle. `Halted` with the
+    /// number of the armed cut comes only where a cycle failed, and says nothing of `into`.
+    pub fn read(&mut self, caller: u8, at: u32, into: &mut [u8]) -> Reply
+        ensures makes { (self.old).erase ≡ None → Makes self.old self.new (entry_of self.old self.new caller (Read at (length into.old)) result into.new) }
+        ensures lasts { (self.old).erase ≡ None → (a : ArrayState) → Stands self.old a → EachLane Lasts (self.old).bus (self.new).bus }
+        ensures refused { (reply : Reply) → range_refusal (size_of (self.old).found) at (length into.old) ≡ Some reply → (result ≡ reply) × (self.new ≡ self.old) }
+        ensures unchanged { result ≢ DoneReply → ((cause : HaltCause) → result ≢ HaltedReply cause) → into.new ≡ into.old }
+        ensures done { result ≡ DoneReply → Went (words_met at (length into.old) W.WIDTH) (words_met at (length into.old) W.WIDTH) (self.old).bus (self.new).bus }
+        ensures asks { Asks (60 + words_met at (length into.old) W.WIDTH) (self.old).bus (self.new).bus }
+        ensures off { (after : ℕ) → result ≡ HaltedReply (NoPower after) → more 1 (self.old).bus.failed ≤ (self.new).bus.failed }
+        ensures keeps { Keeps self.old self.new result }
+        ensures length { length into.new ≡ length into.old }
+    {
+        if let Some(reply) = self.refuses(at, into.len()) {
+            self.stay();
+            return reply;
+        }
+        if into.is_empty() {
+            return Reply::Done;
+        }
+        match read_range::<W, B>(&mut self.bus, at, into) {
+            Ok(_) => Reply::Done,
+            Err(_) => self.halt(Halted::Off { after: self.after }),
+        }
+    }
+
+    /// Programs the bytes of the bank from `at` on, one bus word after another in ascending order.
+    /// `Done`: each is old AND new, and each other byte of the bank is as it was.
+    ///
+    /// Bus words that wouldn't change are only read. The refusals are those of [`Bank::read`], and a
+    /// program of no bytes is `Done` without a cycle. `Failed` tells the bytes of the first bus word in
+    /// which a chip broke off, as far as they lie in the range, and its lanes; the words before are
+    /// done, and those behind are as they were. `Halted` comes only where a cycle failed, with the
+    /// number of the armed cut, or where a lane was read working as often as its table allows; then
+    /// each byte of the range has bits between what it was and what is programmed.
+    ///
+    /// What it makes holds where the bank is of set 0001, no chip has a weak place, and no block of the
+    /// range is locked. At most 6 bus cycles and the table's limit for each bus word.
+    pub fn program(&mut self, caller: u8, at: u32, from: &[u8]) -> Reply
+        ensures makes { (self.old).erase ≡ None → IsBuilt self.old → (a : ArrayState) → Stands self.old a → first_locked a (Program at from.now) ≡ None
+            → MakesEntry self.old self.new (entry_of self.old self.new caller (Program at from.now) result []) a }
+        ensures lasts { (self.old).erase ≡ None → IsBuilt self.old → (a : ArrayState) → Stands self.old a → first_locked a (Program at from.now) ≡ None
+            → EachLane Lasts (self.old).bus (self.new).bus }
+        ensures refused { (reply : Reply) → range_refusal (size_of (self.old).found) at (length from.now) ≡ Some reply → (result ≡ reply) × (self.new ≡ self.old) }
+        ensures empty { from.now ≡ [] → result ≡ DoneReply → self.new ≡ self.old }
+        ensures asks { Asks (80 + words_met at (length from.now) W.WIDTH * (10 + 2 * limit_of (self.old).found.query.times WordWork)) (self.old).bus (self.new).bus }
+        ensures off { (after : ℕ) → result ≡ HaltedReply (NoPower after) → more 1 (self.old).bus.failed ≤ (self.new).bus.failed }
+        ensures stuck { (k : ℕ) → result ≡ HaltedReply (StuckAt k) → (self.old).halted ≡ None → more (limit_of (self.old).found.query.times WordWork) (self.old).bus.cycles ≤ (self.new).bus.cycles }
+        ensures keeps { Keeps self.old self.new result }
+    {
+        if let Some(reply) = self.refuses(at, from.len()) {
+            self.stay();
+            return reply;
+        }
+        if from.is_empty() {
+            return Reply::Done;
+        }
+        let limit = self.found.query.limit(Work::Word);
+        match program_range::<W, B>(&mut self.bus, self.found.geometry, at, from, limit) {
+            Ok(None) => Reply::Done,
+            Ok(Some(broken)) => failed::<W>(at, from.len(), broken),
+            Err(Halt::Off) => self.halt(Halted::Off { after: self.after }),
+            Err(Halt::Stuck { lane }) => self.halt(Halted::Stuck { lane }),
+        }
+    }
+}
