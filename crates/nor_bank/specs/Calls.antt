@@ -36,21 +36,21 @@ left_by_halt None erase op new = left_in_block erase new ++ left_in_range op new
 left_by_halt (Some kept) erase op new = []
 
 -- the data that a read has given
-abbrev pub data_of : Op → List ℕ → List ℕ
-data_of (Read at len) data = data
-data_of _ data = []
+abbrev pub given_by : Op → List ℕ → List ℕ
+given_by (Read at len) given = given
+given_by _ given = []
 
 -- the bytes of the entry of a call that led the bank from old to new
 abbrev pub entry_bytes : Reply → Op → List ℕ → (old new : BankState) → List ℕ
-entry_bytes Done op data old new = data_of op data
-entry_bytes (Failed from to lanes) op data old new = bytes_of new from (to - from)
-entry_bytes (Halted cause) op data old new = left_by_halt old.halted old.erase op new
-entry_bytes _ op data old new = []
+entry_bytes Done op given old new = given_by op given
+entry_bytes (Failed from to lanes) op given old new = bytes_of new from (to - from)
+entry_bytes (Halted cause) op given old new = left_by_halt old.halted old.erase op new
+entry_bytes _ op given old new = []
 
 -- The entry has the call's own caller, arguments and reply, and the data that it has given or what the chips hold.
-abbrev pub entry_of : (old new : BankState) (caller : ℕ) (op : Op) (reply : Reply) (data : List ℕ) → Entry
-entry_of old new caller op reply data =
-    record { caller = caller; op = op; reply = reply; bytes = entry_bytes reply op data old new }
+abbrev pub entry_of : (old new : BankState) (caller : ℕ) (op : Op) (reply : Reply) (given : List ℕ) → Entry
+entry_of old new caller op reply given =
+    record { caller = caller; op = op; reply = reply; bytes = entry_bytes reply op given old new }
 
 -- ---- the facts of a bank
 

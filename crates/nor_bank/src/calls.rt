@@ -1,4 +1,4 @@
-ghost use Rattle.std.specs.Prelude.{◌≡◌, ◌≢◌, ◌<◌, ◌≤◌, ◌+◌, ◌-◌, ◌*◌, ◌/◌, ℕ, length, [], Option, Some, None};
+ghost use Rattle.std.specs.Prelude.{◌≡◌, ◌≢◌, ◌<◌, ◌≤◌, ◌+◌, ◌-◌, ◌*◌, ◌/◌, ℕ, length, [], Option, Some, None, IfSome};
 ghost use Rattle.nor_cell.specs.declared.device.Work.TheVariants.{Word as WordWork};
 ghost use Rattle.nor_query.specs.Derived.{limit_of};
 ghost use Rattle.nor_bus.specs.Bus.{more};
@@ -30,17 +30,31 @@ use nor_word::BusWord;
 pub const MAX_LEN: usize = 4096;
 
 impl<W: BusWord, B: Bus<W>> Bank<W, B> {
-    // What the bank answers to a range of so many bytes without asking the chips.
-    fn refuses(&self, at: u32, len: usize) -> Option<Reply>
-        ensures { result ≡ refusal_now self.now at len }
+    /// What a read or a program of so many bytes is refused with before anything is asked of the chips:
+    /// `OutOfRange` where the bank lacks some of them, else `TooLong` where there are more than
+    /// [`MAX_LEN`].
+    pub fn range_refusal(&self, at: u32, len: u64) -> Option<Reply>
+        ensures refusal { result ≡ range_refusal (size_of (self.now).found) at len }
+        ensures makes { IfSome result (λ reply. (self.now).erase ≡ None → (caller : ℕ) → Makes self.now self.now (entry_of self.now self.now caller (Read at len) reply [])) }
     {
-        if u64::from(at) + len as u64 > u64::from(self.size()) {
+        let size = u64::from(self.size());
+        if u64::from(at) > size || len > size - u64::from(at) {
             return Some(Reply::OutOfRange);
         }
-        if len > MAX_LEN {
+        if len > MAX_LEN as u64 {
             return Some(Reply::TooLong);
         }
-        self.halted.map(Reply::Halted)
+        None
+    }
+
+    // What the bank answers to a range without asking the chips.
+    fn refusal(&self, at: u32, len: usize) -> Option<Reply>
+        ensures { result ≡ refusal_now self.now at len }
+    {
+        match self.range_refusal(at, len as u64) {
+            Some(reply) => Some(reply),
+            None => self.halted.map(Reply::Halted),
+        }
     }
 
     // Where power was lost a cycle is tried, and fails.
@@ -80,7 +94,7 @@ impl<W: BusWord, B: Bus<W>> Bank<W, B> {
         ensures keeps { Keeps self.old self.new result }
         ensures length { length into.new ≡ length into.old }
     {
-        if let Some(reply) = self.refuses(at, into.len()) {
+        if let Some(reply) = self.refusal(at, into.len()) {
             self.stay();
             return reply;
         }
@@ -117,7 +131,7 @@ impl<W: BusWord, B: Bus<W>> Bank<W, B> {
         ensures stuck { (k : ℕ) → result ≡ HaltedReply (StuckAt k) → (self.old).halted ≡ None → more (limit_of (self.old).found.query.times WordWork) (self.old).bus.cycles ≤ (self.new).bus.cycles }
         ensures keeps { Keeps self.old self.new result }
     {
-        if let Some(reply) = self.refuses(at, from.len()) {
+        if let Some(reply) = self.refusal(at, from.len()) {
             self.stay();
             return reply;
         }
