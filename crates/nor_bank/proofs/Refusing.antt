@@ -63,10 +63,10 @@ armed_is (Some cut) n is = is
 -- the halt that is kept is the array's
 kept_by : (halted : Option HaltCause) (b : BankState) (a : ArrayState) (op : Op) → is_power_on op ≡ false → PowerIs halted b a
     → kept_halt (kept_power halted) a.armed op ≡ option_map Halted halted
-kept_by None b a op no now = refl
-kept_by (Some (Off n)) b a op no now =
-    ap (λ (p : Bool). if p then None else Some (Halted (Off (armed_after a.armed)))) no ∙ ap (λ (m : ℕ). Some (Halted (Off m))) (armed_is a.armed n now.1)
-kept_by (Some (Stuck k)) b a op no now = refl
+kept_by None b a op other now = refl
+kept_by (Some (Off n)) b a op other now =
+    ap (λ (p : Bool). if p then None else Some (Halted (Off (armed_after a.armed)))) other ∙ ap (λ (m : ℕ). Some (Halted (Off m))) (armed_is a.armed n now.1)
+kept_by (Some (Stuck k)) b a op other now = refl
 
 pub under_none : (b : BankState) (a : ArrayState) → Stands b a → b.erase ≡ None → a.under ≡ None
 under_none b a stands closed = stands.under ∙ ap under_of closed
@@ -164,6 +164,11 @@ makes_refused b new a caller at len op reply given range stands closed refused s
       agrees = r.agrees e.bytes;
       stands = subst (λ (x : ArrayState). Stands new x) (sym (r.after_is e refl)) still;
     }
+
+-- what the range itself is refused with goes first
+pub first_refusal : (refused : Option Reply) (kept : Option Reply) (reply : Reply) → refused ≡ Some reply → option_or refused kept ≡ Some reply
+first_refusal None kept reply is = absurd (cc)
+first_refusal (Some first) kept reply is = is
 
 -- ---- no refusal
 

@@ -1,0 +1,1 @@
+use Rattle.nor_bank.proofs.Served.{read_off}
