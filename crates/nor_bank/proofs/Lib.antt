@@ -1,4 +1,5 @@
 pub mod BankBytes
+pub mod Blocks
 pub mod Copying
 pub mod Known
 pub mod Lasting
