@@ -1,3 +1,5 @@
+pub mod BankBytes
+pub mod Blocks
 pub mod Copying
 pub mod Known
 pub mod Lasting
@@ -5,4 +7,5 @@ pub mod Ranging
 pub mod Refusing
 pub mod Served
 pub mod Standing
+pub mod Starting
 pub mod Tables
