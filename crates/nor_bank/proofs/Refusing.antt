@@ -170,6 +170,16 @@ pub first_refusal : (refused : Option Reply) (kept : Option Reply) (reply : Repl
 first_refusal None kept reply is = absurd (cc)
 first_refusal (Some first) kept reply is = is
 
+-- and the halt that is kept comes after it
+pub later_refusal : (refused : Option Reply) (halted : Option HaltCause) (cause : HaltCause) → refused ≡ None → halted ≡ Some cause
+    → option_or refused (option_map Halted halted) ≡ Some (Halted cause)
+later_refusal refused halted cause none is =
+    ap (λ (r : Option Reply). option_or r (option_map Halted halted)) none ∙ ap (λ (h : Option HaltCause). option_or None (option_map Halted h)) is
+
+pub no_refusal : (refused : Option Reply) (halted : Option HaltCause) → refused ≡ None → halted ≡ None → option_or refused (option_map Halted halted) ≡ None
+no_refusal refused halted none is =
+    ap (λ (r : Option Reply). option_or r (option_map Halted halted)) none ∙ ap (λ (h : Option HaltCause). option_or None (option_map Halted h)) is
+
 -- ---- no refusal
 
 -- The range lies in the bank and isn't too long, and no halt is kept.

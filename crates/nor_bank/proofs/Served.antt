@@ -93,6 +93,13 @@ read_done b new a width caller at len least most into stands closed wide none so
           (λ p below. byte_now b a p stands closed below ∙ ap (λ (ls : List ChipState). bank_byte b.found.geometry.device ls p) (sym read.same)));
     }
 
+pub more_than_none : (len : ℕ) → (len == 0) ≡ false → 0 < len
+more_than_none len some = grind (arith, nat_tests)
+
+pub no_bytes_in : (xs : List ℕ) → (length xs == 0) ≡ true → xs ≡ []
+no_bytes_in [] none = refl
+no_bytes_in (x ∷ xs) none = absurd (let some = not_none (suc (length xs)) (omega arith) in let both : true ≡ false = sym none ∙ some in cc)
+
 pub read_nothing : (b : BankState) (a : ArrayState) (caller at len : ℕ) (into : List ℕ) → Stands b a → b.erase ≡ None → None ≡ refusal_now b at len → into ≡ [] → len ≡ length into
     → MakesEntry b b (entry_of b b caller (Read at len) Done into) a
 read_nothing b a caller at len into stands closed none empty long =
@@ -129,8 +136,8 @@ armed_by after (Some x) (Some cut) armed is = is.0
 pub is_armed : (b : BankState) (a : ArrayState) (bus : BusState) (most : ℕ) → IsOn b a → Lost most b.bus bus → IsArmed a.armed b.after
 is_armed b a bus most on lost = armed_by b.after b.bus.armed a.armed (lost.was_armed on.power) on.cut
 
-pub no_bytes : (b new : BankState) (op : Op) → b.halted ≡ None → b.erase ≡ None → left_by_halt b.halted b.erase op new ≡ left_by_halt None None op new
-no_bytes b new op running closed = ap (λ (h : Option HaltCause). left_by_halt h b.erase op new) running ∙ ap (λ (e : Option Erasing). left_by_halt None e op new) closed
+pub halt_bytes : (b new : BankState) (op : Op) → b.halted ≡ None → b.erase ≡ None → left_by_halt b.halted b.erase op new ≡ left_by_halt None None op new
+halt_bytes b new op running closed = ap (λ (h : Option HaltCause). left_by_halt h b.erase op new) running ∙ ap (λ (e : Option Erasing). left_by_halt None e op new) closed
 
 pub read_off : (b new : BankState) (a : ArrayState) (width caller at len most : ℕ) (into : List ℕ) (bus : BusState) → Stands b a → b.erase ≡ None → word_bytes b.found ≡ width
     → None ≡ refusal_now b at len → 0 < len → new ≡ record b { bus = bus; halted = Some (Off b.after) }
@@ -145,7 +152,7 @@ read_off b new a width caller at len most into bus stands closed wide none some 
     let count = lost.kept.count in
     let op = Read at len in
     let e = entry_of b new caller op (Halted (Off b.after)) into in
-    let bytes : e.bytes ≡ [] = no_bytes b new op way.running closed in
+    let bytes : e.bytes ≡ [] = halt_bytes b new op way.running closed in
     let none_open : 0 ≡ (open_span a).len = sym (ap (λ (u : Option OpenErase). (erase_span u a.consts).len) free) in
     let power : a.power ≡ On = stands.power ∙ ap kept_power way.running in
     let bank = (known_own b.found b.bus stands.known).bank in
@@ -160,3 +167,27 @@ read_off b new a width caller at len most into bus stands closed wide none some 
       stands = subst (λ (v : BankState). Stands v (after a e)) (sym same)
           (subst (λ (x : ArrayState). Stands (record b { bus = bus; halted = Some (Off b.after) }) x) (sym (halted_array a (Off b.after) op e.bytes power free)) stand);
     }
+
+-- as the calls have it
+pub lost_bank : (b mid new : BankState) → mid ≡ with_bus b mid.bus → new ≡ record mid { halted = Some (Off mid.after) } → new ≡ record b { bus = mid.bus; halted = Some (Off b.after) }
+lost_bank b mid new same kept = kept ∙ ap (λ (x : BankState). record x { halted = Some (Off x.after) }) same
+
+pub lost_reply : (b mid : BankState) (reply : Reply) → mid ≡ with_bus b mid.bus → reply ≡ Halted (Off mid.after) → reply ≡ Halted (Off b.after)
+lost_reply b mid reply same is = is ∙ ap (λ (x : BankState). Halted (Off x.after)) same
+
+-- ---- chips that last through a read
+
+pub lasts_read : (b new : BankState) (a : ArrayState) (width at len : ℕ) (into : List ℕ) → Stands b a → b.erase ≡ None → word_bytes b.found ≡ width → None ≡ refusal_now b at len
+    → ((device : Device) → CanRead width device b.bus at len → ReadsRange device b.bus new.bus at into) → EachLane Lasts b.bus new.bus
+lasts_read b new a width at len into stands closed wide none reads =
+    let way = proceeds b at len (sym none) in
+    let on = is_on_now b a stands way.running in
+    let read = reads b.found.geometry.device (can_read b a width at len stands on closed wide way.within) in
+    lasts_same b.bus new.bus read.same (bytes_known b.found b.bus stands.known)
+
+pub lasts_off : (b : BankState) (bus : BusState) (a : ArrayState) (width at len : ℕ) → Stands b a → b.erase ≡ None → word_bytes b.found ≡ width → None ≡ refusal_now b at len
+    → ((device : Device) → CanRead width device b.bus at len → EachLane Darkens b.bus bus) → EachLane Lasts b.bus bus
+lasts_off b bus a width at len stands closed wide none dark =
+    let way = proceeds b at len (sym none) in
+    let on = is_on_now b a stands way.running in
+    lasts_dark b.bus bus (readable_now b a stands on closed) (dark b.found.geometry.device (can_read b a width at len stands on closed wide way.within))
