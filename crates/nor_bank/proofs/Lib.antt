@@ -1,3 +1,5 @@
 pub mod Copying
 pub mod Padding
 pub mod Ranging
+pub mod Storing
+pub mod Wording
