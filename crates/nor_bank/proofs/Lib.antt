@@ -1,4 +1,6 @@
+pub mod Anding
 pub mod Copying
+pub mod OneWord
 pub mod Padding
 pub mod Ranging
 pub mod Storing

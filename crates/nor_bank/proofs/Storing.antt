@@ -108,7 +108,7 @@ none_erasing s p is =
 
 -- ---- what becomes of it
 
-lasts_unmoved : (s t : ChipState) → IsReadable s → Keeps s t → IsUnmoved s t → Lasts s t
+pub lasts_unmoved : (s t : ChipState) → IsReadable s → Keeps s t → IsUnmoved s t → Lasts s t
 lasts_unmoved s t is kept keeps = record {
   part = keeps.part;
   locks = keeps.locks;

@@ -14,7 +14,7 @@ use Rattle.nor_lane.proofs.Places.{lane_at_below, lane_of_byte, place_of_byte}
 use Rattle.nor_bank.proofs.Ranging.{in_word}
 use Rattle.nor_bank.proofs.Storing.{UnitTo}
 
-some_bytes : (device : Device) → 0 < unit_len device
+pub some_bytes : (device : Device) → 0 < unit_len device
 some_bytes X8 = omega arith
 some_bytes X16 = omega arith
 some_bytes X16Byte = omega arith
