@@ -1,22 +1,21 @@
 -- One bus word of a range: read, and programmed where it changes.
-use Rattle.std.proofs.Common.{◌≡◌, ◌≢◌, ◌<◌, ◌≤◌, ◌+◌, ◌-◌, ◌*◌, ◌/◌, ◌%◌, ◌⊎◌, inl, inr, ℕ, List, [], length, slice_index, refl, sym, ap, subst, ◌∙◌, arith, bit_and, Bool, true, false, is_some}
+use Rattle.std.proofs.Common.{◌≡◌, ◌≢◌, ◌<◌, ◌≤◌, ◌+◌, ◌-◌, ◌*◌, inl, inr, ℕ, List, length, slice_index, refl, sym, ap, subst, ◌∙◌, arith, bit_and, false, is_some, Result, Ok, Err, IfOk, IfErr, IsErrAnd}
 use Rattle.std.proofs.lemmas.Bool.{cases_lt}
 use Rattle.std.proofs.Math.Nat.{lt_of_mul-lt-mul_right}
 use Rattle.nor_cell.specs.Bits.{IsBetween, AreBytes, unit_len, unit_bytes, has_bit}
-use Rattle.nor_cell.specs.Chip.{ChipState, Part, place}
+use Rattle.nor_cell.specs.Chip.{ChipState, place}
 use Rattle.nor_cell.specs.Look.{break_of}
 use Rattle.nor_cell.specs.Wiring.{lane_at, place_at}
 use Rattle.nor_cell.specs.declared.device.Device.{Device}
 use Rattle.nor_cell.specs.declared.geometry.Geometry.{Geometry}
-use Rattle.nor_cell.specs.Steps.{Reads, Keeps}
+use Rattle.nor_cell.specs.Steps.{Reads}
 use Rattle.nor_word.specs.Word.{lane_of}
 use Rattle.nor_bus.specs.Bus.{BusState, IsBank, lane, lanes_of, chip_at, bank_byte, units_of, wide}
 use Rattle.nor_bus.specs.Cycles.{BusFails, KeepsLanes}
-use Rattle.nor_bus.specs.Driven.{IsOwn, AllLanes, EachLane, Went, Lost}
+use Rattle.nor_bus.specs.Driven.{IsOwn, AllLanes, EachLane, Went}
 use Rattle.nor_bus.proofs.Driving.{some_lane, own_kept, keeps_then, lost_then}
 use Rattle.nor_lane.proofs.Places.{lane_at_below}
 use Rattle.nor_poll.specs.Counted.{Counted}
-use Rattle.nor_poll.specs.Losing.{Darkens, Tears, Loses}
 use Rattle.nor_poll.specs.Words.{EachPart, unit_breaks}
 use Rattle.nor_poll.specs.declared.lanes.Halt.{Halt}
 use Rattle.nor_poll.specs.declared.lanes.Halt.TheVariants.{Off, Stuck}
@@ -26,11 +25,21 @@ use Rattle.nor_poll.proofs.Reading.{darkens}
 use Rattle.nor_set1.specs.Word.{ProgramsWord, LosesWord, TearsWord, TellsBroken, IsStuckBy, WordHalts, TakesProgram}
 use Rattle.nor_bank.specs.Programs.{datum_at, MeetsWord, CanProgram, ProgramsPart, Lasts, Leaves, LeavesBy, GivesUp, Changes, IsSound}
 use Rattle.nor_bank.specs.Ranges.{IsReadable}
-use Rattle.nor_bank.proofs.Anding.{and_again, and_ones, between_and, in_range, differs, Differs, no_bits}
+use Rattle.nor_bank.proofs.Anding.{and_again, between_and, in_range, differs, no_bits}
 use Rattle.nor_bank.proofs.Padding.{datum_in}
 use Rattle.nor_bank.proofs.Ranging.{WordRead, word_read, in_word}
 use Rattle.nor_bank.proofs.Storing.{takes, lasts_done, lasts_unmoved, unit_done, unit_torn, unit_lost, dark_stays}
-use Rattle.nor_bank.proofs.Wording.{WordTo, word_to, some_bytes}
+use Rattle.nor_bank.proofs.Wording.{WordTo, word_to}
+
+-- a fact of the error that was given
+pub if_gave : {T E : Type 0} (r : Result T E) (e : E) (P : E → Type 0) → IsErrAnd r (λ x. x ≡ e) → P e → IfErr r P
+if_gave (Ok x) e P gave p = tt
+if_gave (Err x) e P gave p = subst P (sym gave) p
+
+-- two facts of the value that was given
+pub if_both : {T E : Type 0} (r : Result T E) (P Q R : T → Type 0) → ((x : T) → P x → Q x → R x) → IfOk r P → IfOk r Q → IfOk r R
+if_both (Ok x) P Q R f p q = f x p q
+if_both (Err e) P Q R f p q = tt
 
 -- A bus word was read, and this is old AND what is to be programmed there.
 pub record OneRead (width : ℕ) (device : Device) (u at : ℕ) (new : List ℕ) (old mid : BusState) (before padded word : List ℕ) : Type 0 where
@@ -128,7 +137,7 @@ one_done width g limit u at new old mid now before padded word can meets sound s
     let done = λ (c : ℕ) (below : c < lanes_of old). parts c below (lane_takes width g limit u at (length new) old can meets c below) in
     let lane_done = λ (c : ℕ) (below : c < lanes_of old). lasts_done u (lane_of (wide (lane old c)) word c) (lane old c) (lane now c) (can.chips c below) (all.each c below) (done c below) in
     let to = word_to width g.device u (λ j x y. y ≡ bit_and x (slice_index word j)) old.lanes now.lanes can.own.bank some all.count
-        (λ c below. unit_done u c word (lane old c) (lane now c) small (sound c below) (done c below)) in
+    (λ c below. unit_done u c word (lane old c) (lane now c) small (sound c below) (done c below)) in
     record {
       lasts = λ c below. (lane_done c below).0;
       shown = λ c below. (lane_done c (subst (λ (n : ℕ). c < n) all.count below)).1;
@@ -151,13 +160,13 @@ leaves_of width device u at new old mid now before padded word one lasts to =
     record {
       lasts = lasts;
       between = λ a. elim (cases_lt a (u * width)) [
-          inl low ↦ same a (to.below a low)
+        | inl low ↦ same a (to.below a low)
         | inr begins ↦ elim (cases_lt a (u * width + width)) [
-            inl ends ↦ between_and (bank_byte device old.lanes a) (datum_at at new a) (bank_byte device now.lanes a)
-                (subst (λ (d : ℕ). IsBetween (bank_byte device old.lanes a) d (bank_byte device now.lanes a)) (new_byte width device u at a new old mid before padded word one begins ends) (to.inside a begins ends))
+          | inl ends ↦ between_and (bank_byte device old.lanes a) (datum_at at new a) (bank_byte device now.lanes a)
+              (subst (λ (d : ℕ). IsBetween (bank_byte device old.lanes a) d (bank_byte device now.lanes a)) (new_byte width device u at a new old mid before padded word one begins ends) (to.inside a begins ends))
           | inr high ↦ same a (to.above a high)
-          ]
-        ];
+        ]
+      ];
     }
 
 one_torn : (width : ℕ) (g : Geometry) (limit u at : ℕ) (new : List ℕ) (old mid now : BusState) (before padded word : List ℕ)
@@ -225,8 +234,7 @@ one_leaves width g limit u at new old mid now before padded word (Stuck k) can m
     let own = own_kept width g old mid one.went.kept can.own in
     let there : u < units_of mid = subst (λ (n : ℕ). u < n) (sym one.units) (reached width g limit u at (length new) old can meets) in
     let below : k < lanes_of old = subst (λ (n : ℕ). k < n) (sym can.own.count) halts.0 in
-    let stuck : IsStuckBy u limit (lane old k) = subst (λ (ls : List ChipState). IsStuckBy u limit (chip_at ls k)) one.read.same (halts.3 own there) in
-    (
+    let stuck : IsStuckBy u limit (lane old k) = subst (λ (ls : List ChipState). IsStuckBy u limit (chip_at ls k)) one.read.same (halts.3 own there) in (
       one_torn width g limit u at new old mid now before padded word can meets some small one halts.1.kept halts.2,
       stuck (lane_takes width g limit u at (length new) old can meets k below) (can.limits k below),
       one_changes width g.device u at new old mid before padded word can.own.bank can.chips one long size apart,
@@ -265,10 +273,10 @@ one_sound width g limit u at bits new old mid before padded word can meets sound
     subst (λ (ls : List ChipState). (c : ℕ) → c < length ls → TellsBroken u (has_bit bits c) (lane_of (wide (chip_at ls c)) word c) (chip_at ls c)) one.read.same
     (tells (own_kept width g old mid one.went.kept can.own) there) in
     no_bits bits (λ c. elim (cases_lt c g.lanes) [
-      inl low ↦
-        let below : c < lanes_of old = subst (λ (n : ℕ). c < n) (sym can.own.count) low in
-        told c below (lane_takes width g limit u at (length new) old can meets c below) ∙ unit_sound u (lane_of (wide (lane old c)) word c) (lane old c) (sound c below)
-    | inr high ↦ past c high
+      | inl low ↦
+          let below : c < lanes_of old = subst (λ (n : ℕ). c < n) (sym can.own.count) low in
+          told c below (lane_takes width g limit u at (length new) old can meets c below) ∙ unit_sound u (lane_of (wide (lane old c)) word c) (lane old c) (sound c below)
+      | inr high ↦ past c high
     ])
 
 -- ---- its cycles

@@ -29,14 +29,14 @@ pub pad_datum : (width from at j : ℕ) (new word next : List ℕ) → length wo
     → next ≡ slice_set word j (slice_index new (from + j - at)) → IsPadded width from at new j word → IsPadded width from at new (j + 1) next
 pad_datum width from at j new word next wide less low high is so = record {
   done = λ k below. elim (cases_lt k j) [
-      inl before ↦
+    | inl before ↦
         let apart : k ≢ j = omega arith in
         ap (λ (l : List ℕ). slice_index l k) is ∙ (get_or-set_other word j k (slice_index new (from + j - at)) 0 apart ∙ so.done k before)
     | inr here ↦
         let same : k ≡ j = omega arith in
         let byte : slice_index next j ≡ slice_index new (from + j - at) = ap (λ (l : List ℕ). slice_index l j) is ∙ get_or-set_same word j (slice_index new (from + j - at)) 0 (omega arith) in
         subst (λ (n : ℕ). slice_index next n ≡ datum_at at new (from + n)) (sym same) (byte ∙ sym (datum_in at new (from + j) low high))
-    ];
+  ];
   ones = λ k after less.
       let apart : k ≢ j = omega arith in
       ap (λ (l : List ℕ). slice_index l k) is ∙ (get_or-set_other word j k (slice_index new (from + j - at)) 0 apart ∙ so.ones k (omega arith) less);
@@ -47,8 +47,8 @@ pub pad_ones : (width from at j : ℕ) (new word : List ℕ) → j < width → (
     → IsPadded width from at new j word → IsPadded width from at new (j + 1) word
 pad_ones width from at j new word less outside so = record {
   done = λ k below. elim (cases_lt k j) [
-      inl before ↦ so.done k before
+    | inl before ↦ so.done k before
     | inr here ↦ so.ones k here (omega arith) ∙ sym (datum_out at new (from + k) (let same : k ≡ j = omega arith in subst (λ (n : ℕ). (from + n < at) ⊎ (at + length new ≤ from + n)) (sym same) outside))
-    ];
+  ];
   ones = λ k from less. so.ones k (omega arith) less;
 }

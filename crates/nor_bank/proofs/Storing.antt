@@ -1,22 +1,19 @@
 -- A unit of one chip that is programmed.
-use Rattle.std.proofs.Common.{◌≡◌, ◌<◌, ◌≤◌, ◌+◌, ◌-◌, ◌*◌, ◌/◌, ◌%◌, ◌⊎◌, inl, inr, ℕ, zero, suc, List, [], ◌∷◌, length, slice_index, refl, sym, ap, subst, ◌∙◌, arith, bit_and, Bool, true, false, ◌&&◌, ◌||◌, not, unwrap_or}
+use Rattle.std.proofs.Common.{◌≡◌, ◌<◌, ◌≤◌, ◌+◌, ◌-◌, ◌*◌, ◌/◌, ◌%◌, inl, inr, ℕ, zero, suc, List, [], ◌∷◌, length, slice_index, refl, sym, ap, subst, ◌∙◌, arith, bit_and, false, ◌&&◌, ◌||◌, not}
 use Rattle.std.proofs.Math.Nat.{mod-eq_of_lt}
 use Rattle.nor_cell.specs.Bits.{IsBetween, AreBytes, unit_len, unit_bytes}
-use Rattle.nor_cell.specs.Chip.{ChipState, Mode, Step, Job, Held, NotHeld, Holds, Fault, Idle, is_held, holds_block, block_of, place}
-use Rattle.nor_cell.specs.Intel.{held_off}
-use Rattle.nor_cell.specs.Look.{break_of, Programmed}
-use Rattle.nor_cell.specs.Power.{Cuts, is_erasing_at, erases_at, holds_at, programs_at}
-use Rattle.nor_cell.specs.Resting.{IsShown}
+use Rattle.nor_cell.specs.Chip.{ChipState, Job, Held, NotHeld, Holds, is_held, holds_block, block_of, place}
+use Rattle.nor_cell.specs.Look.{Programmed}
+use Rattle.nor_cell.specs.Power.{is_erasing_at, erases_at, holds_at, programs_at}
 use Rattle.nor_cell.specs.Steps.{Keeps}
 use Rattle.nor_cell.specs.Table.{suspend_kind, can_program_suspended}
 use Rattle.nor_cell.specs.declared.device.Device.{Device}
 use Rattle.nor_cell.specs.declared.device.Device.TheVariants.{X8, X16, X16Byte}
-use Rattle.nor_cell.specs.declared.device.Set.{Set}
 use Rattle.nor_cell.specs.declared.device.Set.TheVariants.{Intel}
 use Rattle.nor_word.specs.Word.{lane_of}
 use Rattle.nor_bus.specs.Bus.{wide}
 use Rattle.nor_poll.specs.Losing.{Darkens, IsUnmoved, Tears, Loses}
-use Rattle.nor_set1.specs.Rest.{AtRest, settled}
+use Rattle.nor_set1.specs.Rest.{AtRest}
 use Rattle.nor_set1.specs.Word.{TakesProgram, WordDone}
 use Rattle.nor_bank.specs.Programs.{IsFree, IsSound, Lasts}
 use Rattle.nor_bank.specs.Ranges.{IsReadable}

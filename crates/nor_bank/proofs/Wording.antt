@@ -1,9 +1,8 @@
 -- A bus word of a range that is programmed.
-use Rattle.std.proofs.Common.{◌≡◌, ◌≢◌, ◌<◌, ◌≤◌, ◌+◌, ◌-◌, ◌*◌, ◌/◌, ◌%◌, ◌⊎◌, inl, inr, ℕ, zero, suc, List, [], ◌∷◌, length, slice_index, refl, sym, ap, subst, ◌∙◌, arith, bit_and, Bool, true, false}
-use Rattle.std.proofs.lemmas.Bool.{cases_lt}
-use Rattle.std.proofs.lemmas.Nat.{and_comm, and_assoc, and_or_self, div-add-mod'}
+use Rattle.std.proofs.Common.{◌≡◌, ◌<◌, ◌≤◌, ◌+◌, ◌-◌, ◌*◌, ◌/◌, ◌%◌, ℕ, List, length, slice_index, sym, ap, subst, ◌∙◌, arith}
+use Rattle.std.proofs.lemmas.Nat.{div-add-mod'}
 use Rattle.std.proofs.Math.Nat.{lt_of_mul-lt-mul_right, mul-le-mul_right, mod-lt}
-use Rattle.nor_cell.specs.Bits.{IsBetween, AreBytes, unit_len}
+use Rattle.nor_cell.specs.Bits.{unit_len}
 use Rattle.nor_cell.specs.Chip.{ChipState}
 use Rattle.nor_cell.specs.declared.device.Device.{Device}
 use Rattle.nor_cell.specs.declared.device.Device.TheVariants.{X8, X16, X16Byte}
@@ -61,10 +60,10 @@ word_to width device u P old new bank some count each =
     record {
       below = λ a low.
           here a ∙ (unit (lane_at n d a) (lane_at_below n d a first)).below (place_at n d a)
-              (subst (λ (p : ℕ). p < u * d) (sym (row a)) (before_unit d (a / width) (a % d) u (word_before width u a low) (mod-lt a wires)));
+          (subst (λ (p : ℕ). p < u * d) (sym (row a)) (before_unit d (a / width) (a % d) u (word_before width u a low) (mod-lt a wires)));
       above = λ a high.
           here a ∙ (unit (lane_at n d a) (lane_at_below n d a first)).above (place_at n d a)
-              (subst (λ (p : ℕ). u * d + d ≤ p) (sym (row a)) (after_unit d (a / width) (a % d) u (word_after width u a some high)));
+          (subst (λ (p : ℕ). u * d + d ≤ p) (sym (row a)) (after_unit d (a / width) (a % d) u (word_after width u a some high)));
       inside = λ a low high.
           let c = lane_at n d a in
           let within = in_word width u a low high in
