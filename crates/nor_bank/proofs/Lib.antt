@@ -9,3 +9,10 @@ pub mod Served
 pub mod Standing
 pub mod Starting
 pub mod Tables
+pub mod Anding
+pub mod Copying
+pub mod OneWord
+pub mod Padding
+pub mod Ranging
+pub mod Storing
+pub mod Wording
