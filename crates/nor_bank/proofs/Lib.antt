@@ -6,6 +6,7 @@ pub mod Known
 pub mod Lasting
 pub mod OneWord
 pub mod Padding
+pub mod Programmed
 pub mod Ranging
 pub mod Refusing
 pub mod Served

@@ -1,1 +1,1 @@
-use Rattle.nor_bank.proofs.Served.{read_off}
+use Rattle.nor_bank.proofs.Programmed.{program_done}
