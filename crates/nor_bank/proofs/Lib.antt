@@ -4,4 +4,5 @@ pub mod OneWord
 pub mod Padding
 pub mod Ranging
 pub mod Storing
+pub mod WordByWord
 pub mod Wording
