@@ -14,4 +14,5 @@ pub mod Standing
 pub mod Starting
 pub mod Storing
 pub mod Tables
+pub mod WordByWord
 pub mod Wording
