@@ -1,4 +1,5 @@
 pub mod Anding
+pub mod Asking
 pub mod BankBytes
 pub mod Blocks
 pub mod Copying

@@ -1,27 +1,26 @@
 -- What a program makes of a bank with nothing under erase.
-use Rattle.std.proofs.Common.{◌≡◌, ◌≢◌, ◌<◌, ◌≤◌, ◌+◌, ◌-◌, ◌*◌, ◌⊎◌, inl, inr, ℕ, zero, suc, List, [], ◌∷◌, ◌++◌, length, map, take, drop, slice_index, bit_and, refl, sym, ◌∙◌, ap, subst, arith, Bool, true, false, Option, Some, None}
-use Rattle.std.specs.Prelude.{◌==◌, ◌&&◌, not, nat_le, nat_lt, is_some, if◌then◌else◌}
+use Rattle.std.proofs.Common.{◌≡◌, ◌<◌, ◌≤◌, ◌+◌, ◌-◌, ◌⊎◌, inl, inr, ℕ, zero, suc, List, [], ◌∷◌, ◌++◌, length, map, take, drop, slice_index, bit_and, refl, sym, ◌∙◌, ap, subst, arith, Bool, true, false, Option, Some, None}
+use Rattle.std.specs.Prelude.{◌==◌, is_some, if◌then◌else◌}
 use Rattle.std.specs.List.{list_any}
 use Rattle.std.proofs.lemmas.Bool.{cases_lt, cases_eq}
 use Rattle.std.proofs.lemmas.Bool.Decides.{nat_tests}
 use Rattle.std.proofs.lemmas.List.{append-nil, take-append-drop}
 use Rattle.std.proofs.lemmas.Nat.{and_le_r}
-use Rattle.nor_cell.specs.Bits.{AreBytes, IsBetween}
+use Rattle.nor_cell.specs.Bits.{IsBetween}
 use Rattle.nor_cell.specs.Chip.{ChipState, Part, no_span}
 use Rattle.nor_cell.specs.declared.device.Device.{Device}
 use Rattle.nor_cell.specs.declared.device.Span.{Span}
 use Rattle.nor_cell.specs.declared.geometry.Geometry.{Geometry}
 use Rattle.nor_bus.specs.Bus.{BusState, lane, lanes_of, chip_at, bank_byte, bank_bytes}
-use Rattle.nor_bus.specs.Driven.{AllLanes, EachLane, IsOwn, Lost}
+use Rattle.nor_bus.specs.Driven.{EachLane, Lost}
 use Rattle.nor_poll.specs.Counted.{Counted}
 use Rattle.nor_poll.specs.declared.lanes.Halt.{Halt}
 use Rattle.nor_poll.specs.declared.lanes.Halt.TheVariants.{Off as OffHalt, Stuck as StuckHalt}
-use Rattle.nor_array.specs.Array.{ArrayState, Constants, put, range, open_span, erase_span, is_on, is_open}
+use Rattle.nor_array.specs.Array.{ArrayState, Constants, put, range, open_span, erase_span}
 use Rattle.nor_array.specs.After.{after, all_and, programmed, power_of}
-use Rattle.nor_array.specs.Admits.{Unrefused, AsksChips, EndsUnlocked, Ends, IsArmed, HaltLeaves, ProgramLeaves, AllBetween, AreUncertain, lowest, first_locked, would_change, span_changes, program_breaks, needs_no_chip}
-use Rattle.nor_array.specs.Legal.{Agrees, SticksAtWork, is_stuck, range_changes}
+use Rattle.nor_array.specs.Admits.{Unrefused, AsksChips, EndsUnlocked, Ends, HaltLeaves, ProgramLeaves, AllBetween, AreUncertain, lowest, first_locked, would_change, span_changes, program_breaks}
+use Rattle.nor_array.specs.Legal.{Agrees, is_stuck, range_changes}
 use Rattle.nor_array.proofs.Puts.{length-put, put_below, put_inside, put_above, length-range, slice_index-range, slice_index-all_and, length-all_and, length-programming}
-use Rattle.nor_array.specs.declared.entry.Entry.{Entry}
 use Rattle.nor_array.specs.declared.entry.Halted.{Halted as HaltCause}
 use Rattle.nor_array.specs.declared.entry.Halted.TheVariants.{Off, Stuck}
 use Rattle.nor_array.specs.declared.entry.Op.{Op}
@@ -29,23 +28,21 @@ use Rattle.nor_array.specs.declared.entry.Op.TheVariants.{Program}
 use Rattle.nor_array.specs.declared.entry.Reply.{Reply}
 use Rattle.nor_array.specs.declared.entry.Reply.TheVariants.{Done, Halted}
 use Rattle.nor_array.specs.declared.state.OpenErase.{OpenErase}
-use Rattle.nor_array.specs.declared.state.Power.{Power}
 use Rattle.nor_array.specs.declared.state.Power.TheVariants.{On}
 use Rattle.nor_bank.specs.Calls.{MakesEntry, entry_of, facts_of, left_by_halt}
-use Rattle.nor_bank.specs.Programs.{CanProgram, MeetsWord, ProgramsTo, Leaves, LeavesBy, Changes, Lasts, IsSound, datum_at}
-use Rattle.nor_bank.specs.Ranges.{IsReadable}
+use Rattle.nor_bank.specs.Programs.{CanProgram, Leaves, LeavesBy, Lasts, IsSound, datum_at}
 use Rattle.nor_bank.specs.Stands.{Stands, IsOn, PowerIs, weak_span, weak_spans, kept_power}
 use Rattle.nor_bank.specs.State.{BankState, word_bytes, size_of, byte_of, bytes_of}
-use Rattle.nor_bank.specs.Work.{with_bus, refusal_now, word_limit, IsBuilt, ProgramsRange, LeavesRange}
+use Rattle.nor_bank.specs.Work.{with_bus, refusal_now, word_limit, IsBuilt, NotBroken, ProgramsRange, LeavesRange}
 use Rattle.nor_bank.proofs.Anding.{and_ones}
 use Rattle.nor_bank.proofs.BankBytes.{length-bank_bytes, bank_bytes-at}
 use Rattle.nor_bank.proofs.Blocks.{free_unit}
-use Rattle.nor_bank.proofs.Known.{known_own, known_parts, known_size, known_some}
+use Rattle.nor_bank.proofs.Known.{known_own, known_parts, known_size}
 use Rattle.nor_bank.proofs.OneWord.{byte_small}
 use Rattle.nor_bank.proofs.Padding.{datum_in, datum_out}
 use Rattle.nor_bank.proofs.Refusing.{program_range, not_refused, proceeds, under_none, stuck_lane}
 use Rattle.nor_bank.proofs.Served.{not_none, halted_array, halt_bytes, is_armed}
-use Rattle.nor_bank.proofs.Standing.{is_on_now, readable_now, byte_now, bytes_known, stands_with, stands_halted}
+use Rattle.nor_bank.proofs.Standing.{is_on_now, readable_now, byte_now, stands_with, stands_halted}
 
 -- ---- chips that can be programmed
 
@@ -184,7 +181,6 @@ between_ones old x small byte is =
 -- what the chips hold in the range, and what the array's bytes are with that
 module _ (b : BankState) (bus : BusState) (a : ArrayState) (at : ℕ) (from : List ℕ) (fits : at + length from ≤ size_of b.found)
     (stands : Stands b a) (on : IsOn b a) (closed : b.erase ≡ None) (leaves : Leaves b.found.geometry.device at from b.bus bus) (count : lanes_of bus ≡ lanes_of b.bus) where
-
   abbrev pub left : List ℕ
   left = bank_bytes b.found.geometry.device bus.lanes at (length from)
 
@@ -347,6 +343,13 @@ program_stuck b new bus a width caller at least most k from stands closed built 
     let stuck : is_stuck (facts_of b) k ≡ true = stuck_lane b.bus.lanes k ∙ all.1 in
     let now : (lane bus k).part.stuck ≡ true = ap (λ (p : Part). p.stuck) (leaves.lasts k below).part ∙ all.1 in
     program_halts b new bus a caller at from (Stuck k) stands closed unlocked none some same count leaves (λ bytes left. (refl, left)) (stuck, λ at_work. (unlocked, works)) (now, closed)
+
+-- no word breaks off
+pub broken_never : (b : BankState) (a : ArrayState) (width at : ℕ) (from : List ℕ) → Stands b a → b.erase ≡ None → IsBuilt b → word_bytes b.found ≡ width
+    → first_locked a (Program at from) ≡ None → None ≡ refusal_now b at (length from) → 0 < length from → NotBroken width b at from → ⊥
+broken_never b a width at from stands closed built wide unlocked none some never =
+    let way = proceeds b at (length from) (sym none) in
+    never (can_program b a width at from stands (is_on_now b a stands way.running) closed built wide unlocked some way.within) built.sound
 
 -- ---- chips that last through a program
 
