@@ -16,12 +16,19 @@
 //! word.
 #![tactic(auto)]
 
+mod data;
 mod lanes;
+mod look;
+mod polling;
 mod status;
 #[cfg(test)]
 mod tests;
+mod toggle;
 mod watch;
 
+pub use data::data_poll;
 pub use lanes::{Halt, LaneSet, LaneState, Lanes};
+pub use polling::{Polling, poll};
 pub use status::status_poll;
+pub use toggle::toggle_poll;
 pub use watch::{Broke, Seen, Watch};
