@@ -1,10 +1,10 @@
 -- Any number of status reads.
-use Rattle.std.proofs.Common.{◌≡◌, ◌≢◌, ◌+◌, ◌<◌, ◌≤◌, inl, inr, ℕ, suc, refl, sym, ap, subst, ◌∙◌, arith, Bool, true, false, add-one, Result, Ok, Err, OnErr}
+use Rattle.std.proofs.Common.{◌≡◌, ◌≢◌, ◌+◌, ◌<◌, ◌≤◌, inl, inr, ℕ, suc, refl, sym, ap, subst, ◌∙◌, arith, Bool, true, false, add-one, Result, Ok, Err, OnErr, IfErr, IsErrAnd}
 use Rattle.nor_cell.specs.Chip.{ChipState, Job, Idle, Program, Erase, Pausing, Flags, runs, is_held}
 use Rattle.nor_bus.specs.Bus.{BusState, chip_at, lane, lanes_of}
 use Rattle.nor_bus.specs.Cycles.{BusFails}
 use Rattle.nor_bus.specs.Driven.{Went, Lost, EachLane}
-use Rattle.nor_bus.proofs.Driving.{went_then, went_none, lost_then}
+use Rattle.nor_bus.proofs.Driving.{went_then, lost_then}
 use Rattle.nor_poll.specs.Told.{IsLooked, ShowsStatus, Told, seen}
 use Rattle.nor_poll.specs.Losing.{Darkens}
 use Rattle.nor_poll.specs.Reads.{AfterReads, NoReads, OneMore, ReadBy, DarkensReading}
@@ -61,9 +61,6 @@ after_then s n m k t h NoReads = let e : n ≡ n + 0 = omega arith in subst (λ 
 after_then s n m k t h (OneMore {n = j} {m = x} before look) =
     let e : suc (n + j) ≡ n + suc j = omega arith in subst (λ (i : ℕ). AfterReads s i t) e (OneMore (after_then s n m j x h before) look)
 
-pub read_none : (a : BusState) → ReadBy 0 0 a a
-read_none a = record { reads = 0; enough = omega arith; few = omega arith; went = went_none a; each = λ c below. NoReads }
-
 pub read_one : (a b : BusState) → Went 1 1 a b → EachLane IsLooked a b → ReadBy 1 1 a b
 read_one a b went looked = record { reads = 1; enough = omega arith; few = omega arith; went = went; each = λ c below. OneMore NoReads (looked c below) }
 
@@ -92,3 +89,8 @@ pub dark_then : (l m : ℕ) (a b c : BusState) → ReadBy l m a b → EachLane D
 dark_then l m a b c x dark = λ i below.
     let d = dark i (moved a b i x.went.kept.count below) in
     (x.reads + d.0, record { mid = d.1.mid; reads = after_then (lane a i) x.reads (lane b i) d.0 d.1.mid (x.each i below) d.1.reads; dark = d.1.dark })
+
+-- a fact of the error that was given
+pub if_gave : {T E : Type 0} (r : Result T E) (e : E) (P : E → Type 0) → IsErrAnd r (λ x. x ≡ e) → P e → IfErr r P
+if_gave (Ok x) e P gave p = tt
+if_gave (Err x) e P gave p = subst P (sym gave) p

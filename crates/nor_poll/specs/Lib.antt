@@ -4,5 +4,8 @@ pub mod Polled
 pub mod Reads
 pub mod Register
 pub mod Toggles
+pub mod Rest
 pub mod Told
+pub mod Wait
+pub mod Word
 pub mod Words
