@@ -2,7 +2,7 @@
 use Rattle.std.specs.Prelude.{◌≡◌, ◌<◌, ◌≤◌, ◌+◌, ◌*◌, ℕ, List, Bool, true, false}
 use Rattle.nor_cell.specs.Bits.{unit_bytes}
 use Rattle.nor_cell.specs.Chip.{ChipState, Mode, Array, Status, Rest, NoFault, Program, has_blocks, block_of, is_locked, place}
-use Rattle.nor_cell.specs.Intel.{held_off}
+use Rattle.nor_cell.specs.Intel.{held_off, in_held}
 use Rattle.nor_cell.specs.declared.device.Set.{Set}
 use Rattle.nor_cell.specs.declared.device.Set.TheVariants.{Intel, Amd}
 use Rattle.nor_cell.specs.declared.geometry.Geometry.{Geometry}
@@ -28,6 +28,8 @@ pub record TakesProgram (kind : Set) (u : ℕ) (s : ChipState) : Type 0 where
   pub blocks : has_blocks s.part.blocks ≡ true
   pub unlocked : is_locked s (block_of s u) ≡ false
   pub free : held_off s (block_of s u) ≡ false
+  -- so it is where the blocks follow each other; set 0002 shows it in what it answers
+  pub outside : kind ≡ Amd → in_held s.held s.part (place s.part u) ≡ false
 
 -- what the set shows after a program
 abbrev pub work_mode : Set → Mode
