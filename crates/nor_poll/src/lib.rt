@@ -16,12 +16,23 @@
 //! word.
 #![tactic(auto)]
 
+mod broken;
+mod data;
 mod lanes;
+mod look;
+mod polling;
 mod status;
 #[cfg(test)]
 mod tests;
+mod toggle;
+mod wait;
 mod watch;
 
+pub use broken::broken_lanes;
+pub use data::data_poll;
 pub use lanes::{Halt, LaneSet, LaneState, Lanes};
+pub use polling::{Polling, poll};
 pub use status::status_poll;
+pub use toggle::toggle_poll;
+pub use wait::wait_ready;
 pub use watch::{Broke, Seen, Watch};

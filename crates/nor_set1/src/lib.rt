@@ -11,7 +11,6 @@
 #![tactic(auto)]
 
 mod command;
-mod wait;
 mod word;
 
 pub use command::settle;

@@ -1,8 +1,8 @@
 use Rattle.std.proofs.Common.{ℕ}
 use Rattle.nor_poll.specs.Told.{seen_at}
-use Rattle.nor_set1.specs.Word.{is_broken}
-use Rattle.nor_set1.proofs.Four.{low_bits, high_bits}
-use Rattle.nor_set1.proofs.word.broken_lanes.Goals as goal
+use Rattle.nor_poll.specs.Word.{is_broken}
+use Rattle.nor_poll.proofs.Four.{low_bits, high_bits}
+use Rattle.nor_poll.proofs.broken.broken_lanes.Goals as goal
 
 pub returns-clause-lanes : goal.returns-clause-lanes
 returns-clause-lanes c = λ k below.
