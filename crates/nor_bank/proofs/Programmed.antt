@@ -48,14 +48,14 @@ use Rattle.nor_bank.proofs.Standing.{is_on_now, readable_now, byte_now, stands_w
 
 pub can_program : (b : BankState) (a : ArrayState) (width at : ℕ) (new : List ℕ) → Stands b a → IsOn b a → b.erase ≡ None → IsBuilt b → word_bytes b.found ≡ width
     → first_locked a (Program at new) ≡ None → 0 < length new → at + length new ≤ size_of b.found
-    → CanProgram width b.found.geometry (word_limit b) at (length new) b.bus
+    → CanProgram width b.found.query.set b.found.geometry (word_limit b) at (length new) b.bus
 can_program b a width at new stands on closed built wide unlocked some within =
     let all = known_size b.found b.bus stands.known in
     let parts = known_parts b.found b.bus stands.known in
-    subst (λ (w : ℕ). CanProgram w b.found.geometry (word_limit b) at (length new) b.bus) wide (record {
+    subst (λ (w : ℕ). CanProgram w b.found.query.set b.found.geometry (word_limit b) at (length new) b.bus) wide (record {
       own = known_own b.found b.bus stands.known;
       chips = readable_now b a stands on closed;
-      set = λ c below. (parts c below).set ∙ built.set;
+      set = λ c below. (parts c below).set;
       within = omega (arith, all);
       free = λ u meets c below. free_unit b a at u new c stands on unlocked some within meets below;
       limits = λ c below. (parts c below).ends;
@@ -114,7 +114,7 @@ no_weak g c (s ∷ chips) sound =
 
 pub never_breaks : (b : BankState) (a : ArrayState) (at : ℕ) (new : List ℕ) → Stands b a → IsBuilt b → program_breaks a at new ≡ false
 never_breaks b a at new stands built =
-    let weak : a.consts.weak ≡ [] = ap (λ (k : Constants). k.weak) stands.consts ∙ no_weak b.found.geometry 0 b.bus.lanes built.sound in
+    let weak : a.consts.weak ≡ [] = ap (λ (k : Constants). k.weak) stands.consts ∙ no_weak b.found.geometry 0 b.bus.lanes built in
     ap (λ (l : List Span). list_any (span_changes a.bytes at new) l) weak
 
 -- ---- programs that are done
@@ -129,7 +129,7 @@ pub program_done : (b new : BankState) (a : ArrayState) (width caller at least m
 program_done b new a width caller at least most from stands closed built wide unlocked none some same programs counted =
     let way = proceeds b at (length from) (sym none) in
     let on = is_on_now b a stands way.running in
-    let done = programs (can_program b a width at from stands on closed built wide unlocked some way.within) built.sound in
+    let done = programs (can_program b a width at from stands on closed built wide unlocked some way.within) built in
     let went = counted.went in
     let count = went.kept.count in
     let power = went.power on.power in
@@ -316,7 +316,7 @@ pub program_off : (b new : BankState) (bus : BusState) (a : ArrayState) (width c
 program_off b new bus a width caller at most from stands closed built wide unlocked none some same gives lost =
     let way = proceeds b at (length from) (sym none) in
     let on = is_on_now b a stands way.running in
-    let leaves = gives (can_program b a width at from stands on closed built wide unlocked some way.within) built.sound in
+    let leaves = gives (can_program b a width at from stands on closed built wide unlocked some way.within) built in
     let armed = is_armed b a bus most on lost in
     program_halts b new bus a caller at from (Off b.after) stands closed unlocked none some same lost.kept.count leaves (λ bytes left. (armed, left)) tt (lost.power, armed, closed)
 
@@ -327,7 +327,7 @@ pub program_stuck : (b new : BankState) (bus : BusState) (a : ArrayState) (width
 program_stuck b new bus a width caller at least most k from stands closed built wide unlocked none some same gives there counted =
     let way = proceeds b at (length from) (sym none) in
     let on = is_on_now b a stands way.running in
-    let all = gives (can_program b a width at from stands on closed built wide unlocked some way.within) built.sound in
+    let all = gives (can_program b a width at from stands on closed built wide unlocked some way.within) built in
     let leaves = all.0 in
     let changes = all.2 in
     let count = counted.went.kept.count in
@@ -349,7 +349,7 @@ pub broken_never : (b : BankState) (a : ArrayState) (width at : ℕ) (from : Lis
     → first_locked a (Program at from) ≡ None → None ≡ refusal_now b at (length from) → 0 < length from → NotBroken width b at from → ⊥
 broken_never b a width at from stands closed built wide unlocked none some never =
     let way = proceeds b at (length from) (sym none) in
-    never (can_program b a width at from stands (is_on_now b a stands way.running) closed built wide unlocked some way.within) built.sound
+    never (can_program b a width at from stands (is_on_now b a stands way.running) closed built wide unlocked some way.within) built
 
 -- ---- chips that last through a program
 
@@ -358,7 +358,7 @@ pub lasts_program : (b new : BankState) (a : ArrayState) (width at : ℕ) (from 
 lasts_program b new a width at from stands closed built wide unlocked none some programs =
     let way = proceeds b at (length from) (sym none) in
     let on = is_on_now b a stands way.running in
-    (programs (can_program b a width at from stands on closed built wide unlocked some way.within) built.sound).lasts
+    (programs (can_program b a width at from stands on closed built wide unlocked some way.within) built).lasts
 
 lasts_left : (device : Device) (at : ℕ) (from : List ℕ) (start : ℕ) (halt : Halt) (old now : BusState) → LeavesBy device at from start halt old now → EachLane Lasts old now
 lasts_left device at from start OffHalt old now leaves = leaves.lasts
@@ -369,4 +369,4 @@ pub lasts_given_up : (b mid : BankState) (a : ArrayState) (width at : ℕ) (from
 lasts_given_up b mid a width at from halt stands closed built wide unlocked none some gives =
     let way = proceeds b at (length from) (sym none) in
     let on = is_on_now b a stands way.running in
-    lasts_left b.found.geometry.device at from at halt b.bus mid.bus (gives (can_program b a width at from stands on closed built wide unlocked some way.within) built.sound)
+    lasts_left b.found.geometry.device at from at halt b.bus mid.bus (gives (can_program b a width at from stands on closed built wide unlocked some way.within) built)

@@ -3,7 +3,7 @@ use Rattle.std.specs.Prelude.{◌≡◌, ◌≢◌, ◌<◌, ◌≤◌, ◌+◌,
 use Rattle.nor_cell.specs.Bits.{IsBetween, AreBytes}
 use Rattle.nor_cell.specs.Chip.{ChipState, has_blocks, block_of, is_locked}
 use Rattle.nor_cell.specs.declared.device.Device.{Device}
-use Rattle.nor_cell.specs.declared.device.Set.TheVariants.{Intel}
+use Rattle.nor_cell.specs.declared.device.Set.{Set}
 use Rattle.nor_cell.specs.declared.geometry.Geometry.{Geometry}
 use Rattle.nor_bus.specs.Bus.{BusState, lane, bank_byte, units_of}
 use Rattle.nor_bus.specs.Driven.{IsOwn, Lost, AllLanes, EachLane}
@@ -27,12 +27,12 @@ pub record IsFree (u : ℕ) (s : ChipState) : Type 0 where
   pub blocks : has_blocks s.part.blocks ≡ true
   pub unlocked : is_locked s (block_of s u) ≡ false
 
--- The range lies in the bank, whose chips are of set 0001, show their arrays and hold no erase; no unit of it is locked, and
+-- The range lies in the bank, whose chips are of this set, show their arrays and hold no erase; no unit of it is locked, and
 -- a word shows working fewer times than the limit.
-pub record CanProgram (width : ℕ) (g : Geometry) (limit at len : ℕ) (bus : BusState) : Type 0 where
+pub record CanProgram (width : ℕ) (kind : Set) (g : Geometry) (limit at len : ℕ) (bus : BusState) : Type 0 where
   pub own : IsOwn width g bus
   pub chips : AllLanes IsReadable bus
-  pub set : AllLanes (λ s. s.part.set ≡ Intel) bus
+  pub set : AllLanes (λ s. s.part.set ≡ kind) bus
   pub within : at + len ≤ units_of bus * width
   pub free : (u : ℕ) → MeetsWord width u at len → AllLanes (IsFree u) bus
   pub limits : AllLanes (λ s. word_reads s < limit) bus

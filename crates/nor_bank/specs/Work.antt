@@ -2,7 +2,6 @@
 use Rattle.std.specs.Prelude.{◌≡◌, ◌≢◌, ◌<◌, ◌≤◌, ◌+◌, ℕ, List, [], ◌∷◌, length, nat_lt, Option, Some, None}
 use Rattle.std.specs.Option.{option_or, option_map}
 use Rattle.nor_bus.specs.Bus.{BusState}
-use Rattle.nor_cell.specs.declared.device.Set.TheVariants.{Intel}
 use Rattle.nor_bus.specs.Cycles.{BusFails, KeepsLanes}
 use Rattle.nor_bus.specs.Driven.{AllLanes}
 use Rattle.nor_array.specs.Refusals.{when, first_some}
@@ -12,6 +11,7 @@ use Rattle.nor_array.specs.declared.entry.Reply.{Reply}
 use Rattle.nor_array.specs.declared.entry.Reply.TheVariants.{OutOfRange, TooLong, Halted}
 use Rattle.nor_cell.specs.declared.device.Work.TheVariants.{Word}
 use Rattle.nor_query.specs.Derived.{limit_of}
+use Rattle.nor_poll.specs.Word.{word_most}
 use Rattle.nor_poll.specs.declared.lanes.Halt.{Halt}
 use Rattle.nor_bank.specs.Programs.{CanProgram, ProgramsTo, LeavesBy, IsSound}
 use Rattle.nor_bank.specs.State.{BankState, size_of}
@@ -49,19 +49,22 @@ pub record Keeps (old new : BankState) (reply : Reply) : Type 0 where
   pub rest : new ≡ record old { bus = new.bus; halted = kept_after old.halted reply }
   pub lanes : KeepsLanes old.bus new.bus
 
--- What programs are built for: banks of set 0001 of which no chip has a weak place.
-pub record IsBuilt (b : BankState) : Type 0 where
-  pub set : b.found.query.set ≡ Intel
-  pub sound : AllLanes IsSound b.bus
+-- What programs are built for: banks of which no chip has a weak place.
+abbrev pub IsBuilt : BankState → Type 0
+IsBuilt b = AllLanes IsSound b.bus
 
 -- how often a word may be read working
 abbrev pub word_limit : BankState → ℕ
 word_limit b = limit_of b.found.query.times Word
 
+-- how many cycles a word asks for at most: one that reads it, and those of its program
+abbrev pub word_cycles : BankState → ℕ
+word_cycles b = word_most b.found.query.set (word_limit b) + 1
+
 -- ---- programs of a bank whose chips can be programmed
 
 abbrev pub CanProgramIn : (width : ℕ) (b : BankState) (at : ℕ) (new : List ℕ) → Type 0
-CanProgramIn width b at new = CanProgram width b.found.geometry (word_limit b) at (length new) b.bus
+CanProgramIn width b at new = CanProgram width b.found.query.set b.found.geometry (word_limit b) at (length new) b.bus
 
 -- all of the range was programmed
 abbrev pub ProgramsRange : (width : ℕ) (old : BankState) (at : ℕ) (new : List ℕ) → BankState → Type 0

@@ -17,7 +17,7 @@ ghost use Rattle.nor_bank.specs.Programs.{Lasts, MeetsWord, GivesUp};
 ghost use Rattle.nor_bank.specs.Ranges.{words_met, CanRead, ReadsRange};
 ghost use Rattle.nor_bank.specs.Stands.{Stands};
 ghost use Rattle.nor_bank.specs.State.{size_of, IsDark};
-ghost use Rattle.nor_bank.specs.Work.{Asks, range_refusal, with_bus, Stays, Keeps, IsBuilt, word_limit, ProgramsRange, NotBroken, LeavesRange};
+ghost use Rattle.nor_bank.specs.Work.{Asks, range_refusal, with_bus, Stays, Keeps, IsBuilt, word_limit, word_cycles, ProgramsRange, NotBroken, LeavesRange};
 
 use crate::Bank;
 use crate::programming::{Broken, failed, program_range};
@@ -138,12 +138,12 @@ impl<W: BusWord, B: Bus<W>> Bank<W, B> {
         ensures programs { result ≡ Ok None → ProgramsRange W.WIDTH self.old at from.now self.new }
         ensures sound { (broken : BrokenWord) → result ≡ Ok (Some broken) → NotBroken W.WIDTH self.old at from.now }
         ensures there { (broken : BrokenWord) → result ≡ Ok (Some broken) → MeetsWord W.WIDTH broken.unit at (length from.now) }
-        ensures counted { OnOk result (Counted 1 (words_met at (length from.now) W.WIDTH * (word_limit self.old + 6)) (self.old).bus (self.new).bus) }
-        ensures halts { IfErr result (λ halt. GivesUp (self.old).found.geometry.lanes (word_limit self.old) (words_met at (length from.now) W.WIDTH * (word_limit self.old + 6)) halt (self.old).bus (self.new).bus) }
+        ensures counted { OnOk result (Counted 1 (words_met at (length from.now) W.WIDTH * word_cycles self.old) (self.old).bus (self.new).bus) }
+        ensures halts { IfErr result (λ halt. GivesUp (self.old).found.geometry.lanes (word_limit self.old) (words_met at (length from.now) W.WIDTH * word_cycles self.old) halt (self.old).bus (self.new).bus) }
         ensures leaves { IfErr result (λ halt. LeavesRange W.WIDTH self.old at from.now halt self.new) }
     {
         let limit = self.found.query.limit(Work::Word);
-        program_range::<W, B>(&mut self.bus, self.found.geometry, at, from, limit)
+        program_range::<W, B>(&mut self.bus, self.found.query.set, self.found.geometry, at, from, limit)
     }
 
     /// Programs the bytes of the bank from `at` on, one bus word after another in ascending order.

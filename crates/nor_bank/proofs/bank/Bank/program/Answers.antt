@@ -10,7 +10,7 @@ use Rattle.nor_bank.specs.Calls.{MakesEntry, entry_of}
 use Rattle.nor_bank.specs.Programs.{Lasts, GivesUp}
 use Rattle.nor_bank.specs.Ranges.{words_met}
 use Rattle.nor_bank.specs.State.{BankState}
-use Rattle.nor_bank.specs.Work.{Asks, LeavesRange, word_limit}
+use Rattle.nor_bank.specs.Work.{Asks, LeavesRange, word_limit, word_cycles}
 use Rattle.nor_bank.proofs.Asking.{asks_lost, asks_counted}
 use Rattle.nor_bank.proofs.Programmed.{program_done, program_nothing, program_off, program_stuck, lasts_program, lasts_given_up, broken_never}
 use Rattle.nor_bank.proofs.Refusing.{program_range}
@@ -60,7 +60,7 @@ returns-in-Ok-None-clause-makes g c closed built a stands unlocked =
     let len = length c.args.from.now in
     let is = ready now _ w c.args.at len c.range_refusal.result c.is_empty.result c.self.view_is c.self.invariant.wiring c.in_default-halted.is
     c.range_refusal.ensures.refusal c.in_default.is c.is_empty.ensures c.if-is_empty.false in
-    program_done now c.program_quiet.new.self a w c.args.caller c.args.at 1 (words_met c.args.at len w * (word_limit now + 6)) c.args.from.now stands closed built is.wide unlocked is.none is.some
+    program_done now c.program_quiet.new.self a w c.args.caller c.args.at 1 (words_met c.args.at len w * word_cycles now) c.args.from.now stands closed built is.wide unlocked is.none is.some
     c.in-Ok-None.ensures.same (c.in-Ok-None.ensures.programs (ap Ok c.in-Ok-None.field-0-is)) c.in-Ok-None.ensures.counted
 
 pub returns-in-Ok-None-clause-lasts : goal.returns-in-Ok-None-clause-lasts
@@ -103,7 +103,7 @@ returns-in-Err-Off-clause-makes g c closed built a stands unlocked =
     let is = ready now _ w c.args.at len c.range_refusal.result c.is_empty.result c.self.view_is c.self.invariant.wiring c.in_default-halted.is
     c.range_refusal.ensures.refusal c.in_default.is c.is_empty.ensures c.if-is_empty.false in
     let mid = c.program_quiet.new.self in
-    let most = words_met c.args.at len w * (word_limit now + 6) in
+    let most = words_met c.args.at len w * word_cycles now in
     let same = lost_bank now mid c.lose.new.self c.in-Err-Off.ensures.same c.lose.ensures.kept in
     let reply = lost_reply now mid c.lose.result c.in-Err-Off.ensures.same c.lose.ensures.reply in
     let gives = subst (λ (h : Halt). GivesUp now.found.geometry.lanes (word_limit now) most h now.bus mid.bus) c.in-Err-Off.field-0-is c.in-Err-Off.ensures.halts in
@@ -128,8 +128,8 @@ returns-in-Err-Off-clause-asks g c =
     let words = words_met c.args.at (length c.args.from.now) g.W.BusWord.WIDTH in
     let mid = c.program_quiet.new.self.bus in
     let same : c.lose.new.self.bus ≡ mid = ap (λ (b : BankState). b.bus) c.lose.ensures.kept in
-    let gives = subst (λ (h : Halt). GivesUp now.found.geometry.lanes (word_limit now) (words * (word_limit now + 6)) h now.bus mid) c.in-Err-Off.field-0-is c.in-Err-Off.ensures.halts in
-    subst (λ (bus : BusState). Asks (80 + words * (10 + 2 * word_limit now)) now.bus bus) (sym same) (asks_lost words (word_limit now) now.bus mid gives)
+    let gives = subst (λ (h : Halt). GivesUp now.found.geometry.lanes (word_limit now) (words * word_cycles now) h now.bus mid) c.in-Err-Off.field-0-is c.in-Err-Off.ensures.halts in
+    subst (λ (bus : BusState). Asks (80 + words * (10 + 2 * word_limit now)) now.bus bus) (sym same) (asks_lost now.found.query.set words (word_limit now) now.bus mid gives)
 
 -- ---- a stuck lane
 
@@ -142,7 +142,7 @@ returns-in-Err-Stuck-clause-makes g c closed built a stands unlocked =
     c.range_refusal.ensures.refusal c.in_default.is c.is_empty.ensures c.if-is_empty.false in
     let mid = c.program_quiet.new.self in
     let k = c.in-Err-Stuck.lane in
-    let most = words_met c.args.at len w * (word_limit now + 6) in
+    let most = words_met c.args.at len w * word_cycles now in
     let same = halted_bank now mid c.halt.new.self (Stuck k) c.in-Err-Stuck.ensures.same c.halt.ensures.kept in
     let gives = subst (λ (h : Halt). GivesUp now.found.geometry.lanes (word_limit now) most h now.bus mid.bus) c.in-Err-Stuck.field-0-is c.in-Err-Stuck.ensures.halts in
     let leaves = subst (λ (h : Halt). LeavesRange w now c.args.at c.args.from.now h mid) c.in-Err-Stuck.field-0-is c.in-Err-Stuck.ensures.leaves in
@@ -166,13 +166,13 @@ returns-in-Err-Stuck-clause-asks g c =
     let words = words_met c.args.at (length c.args.from.now) g.W.BusWord.WIDTH in
     let mid = c.program_quiet.new.self.bus in
     let same : c.halt.new.self.bus ≡ mid = ap (λ (b : BankState). b.bus) c.halt.ensures.kept in
-    let gives = subst (λ (h : Halt). GivesUp now.found.geometry.lanes (word_limit now) (words * (word_limit now + 6)) h now.bus mid) c.in-Err-Stuck.field-0-is c.in-Err-Stuck.ensures.halts in
-    subst (λ (bus : BusState). Asks (80 + words * (10 + 2 * word_limit now)) now.bus bus) (sym same) (asks_counted words (word_limit now) (word_limit now) now.bus mid gives.1)
+    let gives = subst (λ (h : Halt). GivesUp now.found.geometry.lanes (word_limit now) (words * word_cycles now) h now.bus mid) c.in-Err-Stuck.field-0-is c.in-Err-Stuck.ensures.halts in
+    subst (λ (bus : BusState). Asks (80 + words * (10 + 2 * word_limit now)) now.bus bus) (sym same) (asks_counted now.found.query.set words (word_limit now) (word_limit now) now.bus mid gives.1)
 
 pub returns-in-Err-Stuck-clause-keeps : goal.returns-in-Err-Stuck-clause-keeps
 returns-in-Err-Stuck-clause-keeps g c =
     let now = c.args.self.now in
     let mid = c.program_quiet.new.self in
-    let most = words_met c.args.at (length c.args.from.now) g.W.BusWord.WIDTH * (word_limit now + 6) in
+    let most = words_met c.args.at (length c.args.from.now) g.W.BusWord.WIDTH * word_cycles now in
     let gives = subst (λ (h : Halt). GivesUp now.found.geometry.lanes (word_limit now) most h now.bus mid.bus) c.in-Err-Stuck.field-0-is c.in-Err-Stuck.ensures.halts in
     keeps_halted now mid c.halt.new.self (Stuck c.in-Err-Stuck.lane) c.halt.result c.in-Err-Stuck.ensures.same c.halt.ensures.kept c.halt.ensures.reply gives.1.went.kept

@@ -11,8 +11,9 @@ returns-clause-leaves g c =
     let w = g.W.BusWord.WIDTH in
     let old = g.B.Bus.state c.self.inside.bus in
     let new = g.B.Bus.state c.program_range.new.bus in
+    let kind = c.self.inside.found.query.set in
     let wiring = c.self.inside.found.geometry in
     let from = c.args.from.now in
-    let here = subst (λ (n : ℕ). IfErr c.program_range.result (λ (halt : Halt). CanProgram w wiring n c.args.at (length from) old → AllLanes IsSound old → LeavesBy wiring.device c.args.at from c.args.at halt old new))
+    let here = subst (λ (n : ℕ). IfErr c.program_range.result (λ (halt : Halt). CanProgram w kind wiring n c.args.at (length from) old → AllLanes IsSound old → LeavesBy wiring.device c.args.at from c.args.at halt old new))
     c.limit-limit.ensures.value c.program_range.ensures.leaves in
     subst (λ (b : BankState). IfErr c.program_range.result (λ (halt : Halt). LeavesRange w b c.args.at from halt (with_bus c.args.self.now new))) c.self.view_is here
