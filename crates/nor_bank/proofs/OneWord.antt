@@ -57,18 +57,18 @@ reached width g limit u at len old can meets =
     let less : u * width < units_of old * width = omega (arith, within, before) in
     lt_of_mul-lt-mul_right width less
 
-pub one_read : (width : ℕ) (g : Geometry) (limit u from at : ℕ) (new : List ℕ) (old mid : BusState) (before padded word : List ℕ)
-    → CanProgram width g limit at (length new) old → MeetsWord width u at (length new) → 0 < width → AreBytes before → from ≡ u * width
+pub one_read : (width : ℕ) (g : Geometry) (limit u at : ℕ) (new : List ℕ) (old mid : BusState) (before padded word : List ℕ)
+    → CanProgram width g limit at (length new) old → MeetsWord width u at (length new) → 0 < width → AreBytes before
     → Went 1 1 old mid → units_of mid ≡ units_of old
     → (u < units_of old → (c : ℕ) → c < lanes_of old → Reads (lane old c) u (lane_of (wide (lane old c)) before c) (lane mid c))
-    → ((j : ℕ) → j < width → slice_index padded j ≡ datum_at at new (from + j))
+    → ((j : ℕ) → j < width → slice_index padded j ≡ datum_at at new (u * width + j))
     → ((k : ℕ) → slice_index word k ≡ bit_and (slice_index before k) (slice_index padded k))
     → OneRead width g.device u at new old mid before padded word
-one_read width g limit u from at new old mid before padded word can meets some small begins went units reads pads anded = record {
+one_read width g limit u at new old mid before padded word can meets some small went units reads pads anded = record {
   went = went;
   units = units;
   read = word_read width g.device u old mid before can.own.bank can.chips some went.kept.count small (reads (reached width g limit u at (length new) old can meets));
-  pads = subst (λ (n : ℕ). (j : ℕ) → j < width → slice_index padded j ≡ datum_at at new (n + j)) begins pads;
+  pads = pads;
   anded = anded;
 }
 

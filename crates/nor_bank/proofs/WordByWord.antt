@@ -102,12 +102,21 @@ programs_none width g limit u at first new bus is same = record {
       };
 }
 
--- a word of the loop meets the range
-pub meets_range : (at len width first u : ℕ) → 0 < width → 0 < len → first ≡ at / width → first ≤ u → u < (at + len - 1) / width + 1 → MeetsWord width u at len
-meets_range at len width first u some more is from to =
-    let low = after_first at width u some (subst (λ (n : ℕ). n ≤ u) is from) in
-    let high = before_last (at + len - 1) width u some to in
-    record { before_end = omega (arith, high, more); behind_start = low }
+-- Word u is one that the range meets, and so many words are left with it.
+pub record IsOfRange (at len width first u : ℕ) : Type 0 where
+  pub from : first ≤ u
+  pub meets : MeetsWord width u at len
+  pub left : u - first + 1 ≤ words_met at len width
+
+pub of_range : (at len width first last u : ℕ) → 0 < width → 0 < len → first ≡ at / width → last ≡ (at + len - 1) / width → first ≤ u → u < last + 1 → IsOfRange at len width first u
+of_range at len width first last u some more begins ends from to =
+    let low = after_first at width u some (subst (λ (n : ℕ). n ≤ u) begins from) in
+    let high = before_last (at + len - 1) width u some (omega (arith, ends, to)) in
+    record {
+      from = from;
+      meets = record { before_end = omega (arith, high, more); behind_start = low };
+      left = omega (arith, begins, ends, from, to);
+    }
 
 programs_on : (width : ℕ) (device : Device) (u at : ℕ) (new : List ℕ) (old now after : BusState) → lanes_of now ≡ lanes_of old → ProgramsTo device at new (u * width) old now
     → ProgramsPart device at new (u * width) (u * width + width) now after → ProgramsTo device at new ((u + 1) * width) old after
@@ -124,12 +133,13 @@ programs_on width device u at new old now after count to part =
     }
 
 -- one word more
-pub programs_more : (width : ℕ) (g : Geometry) (limit u at first : ℕ) (new : List ℕ) (old now after : BusState) → first ≤ u → ProgrammedTo width g limit u at first new old now
-    → MeetsWord width u at (length new) → Counted 1 (limit + 6) now after → units_of after ≡ units_of now
+pub programs_more : (width : ℕ) (g : Geometry) (limit u at first : ℕ) (new : List ℕ) (old now after : BusState) → IsOfRange at (length new) width first u → ProgrammedTo width g limit u at first new old now
+    → Counted 1 (limit + 6) now after → units_of after ≡ units_of now
     → (CanProgram width g limit at (length new) now → MeetsWord width u at (length new) → AllLanes IsSound now → ProgramsPart g.device at new (u * width) (u * width + width) now after)
     → ProgrammedTo width g limit (u + 1) at first new old after
-programs_more width g limit u at first new old now after from so meets counted units part = record {
+programs_more width g limit u at first new old now after of so counted units part = record {
   counted =
+      let from = of.from in
       let words : u + 1 - first ≡ u - first + 1 = omega (arith, from) in
       let cycles : (u + 1 - first) * (limit + 6) ≡ (u - first + 1) * (limit + 6) = ap (λ (n : ℕ). n * (limit + 6)) words in
       counted_then (u - first) ((u - first) * (limit + 6)) 1 (limit + 6) (u + 1 - first) ((u + 1 - first) * (limit + 6)) old now after (omega (arith, words)) (omega (arith, cycles)) so.counted counted;
@@ -138,16 +148,16 @@ programs_more width g limit u at first new old now after from so meets counted u
       let to = so.programs can sound in
       let count = so.counted.went.kept.count in
       programs_on width g.device u at new old now after count to
-      (part (can_lasts width g limit at new (u * width) (u - first) ((u - first) * (limit + 6)) old now so.counted so.units can to) meets (sound_lasts old now count to.lasts sound));
+      (part (can_lasts width g limit at new (u * width) (u - first) ((u - first) * (limit + 6)) old now so.counted so.units can to) of.meets (sound_lasts old now count to.lasts sound));
 }
 
 -- all words of the range
-pub programs_all : (width : ℕ) (g : Geometry) (limit u at first : ℕ) (new : List ℕ) (old now : BusState) → 0 < width → 0 < length new → (at + length new - 1) / width + 1 ≤ u
+pub programs_all : (width : ℕ) (g : Geometry) (limit u at first last : ℕ) (new : List ℕ) (old now : BusState) → 0 < width → 0 < length new → last ≡ (at + length new - 1) / width → last + 1 ≤ u
     → ProgrammedTo width g limit u at first new old now → CanProgram width g limit at (length new) old → AllLanes IsSound old → ProgramsTo g.device at new (at + length new) old now
-programs_all width g limit u at first new old now some more end so can sound =
+programs_all width g limit u at first last new old now some more ends past so can sound =
     let to = so.programs can sound in
-    let past : at + length new - 1 < u * width = past_last (at + length new - 1) width u some end in
-    let reach : at + length new ≤ u * width = omega (arith, past, more) in
+    let behind = past_last (at + length new - 1) width u some (omega (arith, ends, past)) in
+    let reach : at + length new ≤ u * width = omega (arith, behind, more) in
     record {
       lasts = to.lasts;
       shown = to.shown;
@@ -162,24 +172,24 @@ programs_all width g limit u at first new old now some more end so can sound =
 
 -- ---- a word broke off, or was given up
 
-pub words_left : (at len width first u : ℕ) → first ≡ at / width → first ≤ u → u < (at + len - 1) / width + 1 → u - first + 1 ≤ words_met at len width
-words_left at len width first u is from to = omega (arith, is, from, to)
-
 one_more : (n m k : ℕ) → n + 1 ≤ m → n * k + k ≤ m * k
 one_more n m k le = let more = mul-le-mul_right k le in omega (arith, more)
 
-pub counted_more : (width : ℕ) (g : Geometry) (limit u at first words : ℕ) (new : List ℕ) (old now after : BusState) → u - first + 1 ≤ words → ProgrammedTo width g limit u at first new old now
-    → Counted 1 (limit + 6) now after → Counted 1 (words * (limit + 6)) old after
-counted_more width g limit u at first words new old now after few so counted =
-    let most = one_more (u - first) words (limit + 6) few in
+pub counted_more : (width : ℕ) (g : Geometry) (limit u at first : ℕ) (new : List ℕ) (old now after : BusState) → IsOfRange at (length new) width first u → ProgrammedTo width g limit u at first new old now
+    → Counted 1 (limit + 6) now after → Counted 1 (words_met at (length new) width * (limit + 6)) old after
+counted_more width g limit u at first new old now after of so counted =
+    let words = words_met at (length new) width in
+    let most = one_more (u - first) words (limit + 6) of.left in
     counted_then (u - first) ((u - first) * (limit + 6)) 1 (limit + 6) 1 (words * (limit + 6)) old now after (omega arith) most so.counted counted
 
-pub gives_up_more : (width : ℕ) (g : Geometry) (limit u at first words : ℕ) (new : List ℕ) (old now after : BusState) (halt : Halt) → u - first + 1 ≤ words
-    → ProgrammedTo width g limit u at first new old now → GivesUp g.lanes limit (limit + 6) halt now after → GivesUp g.lanes limit (words * (limit + 6)) halt old after
-gives_up_more width g limit u at first words new old now after Off few so lost =
-    counted_lost (u - first) ((u - first) * (limit + 6)) (limit + 6) (words * (limit + 6)) old now after (one_more (u - first) words (limit + 6) few) so.counted lost
-gives_up_more width g limit u at first words new old now after (Stuck k) few so stuck =
-    (stuck.0, counted_then (u - first) ((u - first) * (limit + 6)) limit (limit + 6) limit (words * (limit + 6)) old now after (omega arith) (one_more (u - first) words (limit + 6) few) so.counted stuck.1)
+pub gives_up_more : (width : ℕ) (g : Geometry) (limit u at first : ℕ) (new : List ℕ) (old now after : BusState) (halt : Halt) → IsOfRange at (length new) width first u
+    → ProgrammedTo width g limit u at first new old now → GivesUp g.lanes limit (limit + 6) halt now after → GivesUp g.lanes limit (words_met at (length new) width * (limit + 6)) halt old after
+gives_up_more width g limit u at first new old now after Off of so lost =
+    let words = words_met at (length new) width in
+    counted_lost (u - first) ((u - first) * (limit + 6)) (limit + 6) (words * (limit + 6)) old now after (one_more (u - first) words (limit + 6) of.left) so.counted lost
+gives_up_more width g limit u at first new old now after (Stuck k) of so stuck =
+    let words = words_met at (length new) width in
+    (stuck.0, counted_then (u - first) ((u - first) * (limit + 6)) limit (limit + 6) limit (words * (limit + 6)) old now after (omega arith) (one_more (u - first) words (limit + 6) of.left) so.counted stuck.1)
 
 -- bits between old AND d and d are bits between old and d
 between_on : (x d y : ℕ) → IsBetween (bit_and x d) d y → IsBetween x d y
@@ -227,20 +237,20 @@ leaves_by width g limit u at most new old now after (Stuck k) count lanes to gav
   changes_on g.device at (u * width) new old now to leaves.2,
 )
 
-pub leaves_more : (width : ℕ) (g : Geometry) (limit u at first most : ℕ) (new : List ℕ) (old now after : BusState) (halt : Halt) → ProgrammedTo width g limit u at first new old now
-    → MeetsWord width u at (length new) → CanProgram width g limit at (length new) old → AllLanes IsSound old → GivesUp g.lanes limit most halt now after
+pub leaves_more : (width : ℕ) (g : Geometry) (limit u at first most : ℕ) (new : List ℕ) (old now after : BusState) (halt : Halt) → IsOfRange at (length new) width first u
+    → ProgrammedTo width g limit u at first new old now → CanProgram width g limit at (length new) old → AllLanes IsSound old → GivesUp g.lanes limit most halt now after
     → (CanProgram width g limit at (length new) now → MeetsWord width u at (length new) → LeavesBy g.device at new (u * width) halt now after)
     → LeavesBy g.device at new at halt old after
-leaves_more width g limit u at first most new old now after halt so meets can sound gave leaves =
+leaves_more width g limit u at first most new old now after halt of so can sound gave leaves =
     let to = so.programs can sound in
     leaves_by width g limit u at most new old now after halt so.counted.went.kept.count can.own.count to gave
-    (leaves (can_lasts width g limit at new (u * width) (u - first) ((u - first) * (limit + 6)) old now so.counted so.units can to) meets)
+    (leaves (can_lasts width g limit at new (u * width) (u - first) ((u - first) * (limit + 6)) old now so.counted so.units can to) of.meets)
 
 -- no lane breaks off
-pub sound_more : (width : ℕ) (g : Geometry) (limit u at first bits : ℕ) (new : List ℕ) (old now : BusState) → ProgrammedTo width g limit u at first new old now
-    → MeetsWord width u at (length new) → CanProgram width g limit at (length new) old → AllLanes IsSound old
+pub sound_more : (width : ℕ) (g : Geometry) (limit u at first bits : ℕ) (new : List ℕ) (old now : BusState) → IsOfRange at (length new) width first u → ProgrammedTo width g limit u at first new old now
+    → CanProgram width g limit at (length new) old → AllLanes IsSound old
     → (CanProgram width g limit at (length new) now → MeetsWord width u at (length new) → AllLanes IsSound now → bits ≡ 0) → bits ≡ 0
-sound_more width g limit u at first bits new old now so meets can sound none =
+sound_more width g limit u at first bits new old now of so can sound none =
     let to = so.programs can sound in
-    none (can_lasts width g limit at new (u * width) (u - first) ((u - first) * (limit + 6)) old now so.counted so.units can to) meets
+    none (can_lasts width g limit at new (u * width) (u - first) ((u - first) * (limit + 6)) old now so.counted so.units can to) of.meets
     (sound_lasts old now so.counted.went.kept.count to.lasts sound)

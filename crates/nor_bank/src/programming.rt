@@ -23,12 +23,12 @@ pub(crate) struct Broken {
     pub(crate) lanes: LaneSet,
 }
 
-// The bus word that begins at byte `from` of the bank: the bytes that are to be programmed from `at`
-// on, and ones elsewhere.
-fn pad_word<W: BusWord>(from: u64, at: u32, new: &[u8]) -> W
-    requires near { from < 2 ^ 40 }
-    ensures { (j : ℕ) → j < W.WIDTH → slice_index (W.bytes result) j ≡ datum_at at new.now (from + j) }
+// What is to be programmed in bus word `u`: the bytes of a range that begins at `at`, and ones
+// elsewhere.
+fn pad_word<W: BusWord>(u: u32, at: u32, new: &[u8]) -> W
+    ensures { (j : ℕ) → j < W.WIDTH → slice_index (W.bytes result) j ≡ datum_at at new.now (u * W.WIDTH + j) }
 {
+    let from = u64::from(u) * u64::from(W::WIDTH);
     let mut word = W::splat(0xFF);
     for j in 0..W::WIDTH {
         let a = from + u64::from(j);
@@ -57,7 +57,7 @@ fn program_one<W: BusWord, B: Bus<W>>(
     ensures units { units_of (B.state bus.new) ≡ units_of (B.state bus.old) }
 {
     let old: W = read_word::<W, B>(bus, u)?;
-    let word = old.and(pad_word::<W>(u64::from(u) * u64::from(W::WIDTH), at, new));
+    let word = old.and(pad_word::<W>(u, at, new));
     if word.equals(old) {
         return Ok(LaneSet { bits: 0 });
     }
@@ -86,7 +86,7 @@ pub(crate) fn program_range<W: BusWord, B: Bus<W>>(
     ensures units { units_of (B.state bus.new) ≡ units_of (B.state bus.old) }
 {
     let first = word_of::<W>(at);
-    let last = word_of::<W>(at + (new.len() - 1) as u32);
+    let last = word_of::<W>(at + new.len() as u32 - 1);
     for u in first..last + 1 {
         let lanes = program_one::<W, B>(bus, g, u, at, new, limit)?;
         if lanes.bits != 0 {
