@@ -7,6 +7,8 @@ use Rattle.nor_cell.specs.Chip.{ChipState, place}
 use Rattle.nor_cell.specs.Look.{break_of}
 use Rattle.nor_cell.specs.Wiring.{lane_at, place_at}
 use Rattle.nor_cell.specs.declared.device.Device.{Device}
+use Rattle.nor_cell.specs.declared.device.Set.{Set}
+use Rattle.nor_cell.specs.declared.device.Set.TheVariants.{Intel, Amd}
 use Rattle.nor_cell.specs.declared.geometry.Geometry.{Geometry}
 use Rattle.nor_cell.specs.Steps.{Reads}
 use Rattle.nor_word.specs.Word.{lane_of}
@@ -22,7 +24,7 @@ use Rattle.nor_poll.specs.declared.lanes.Halt.TheVariants.{Off, Stuck}
 use Rattle.nor_poll.proofs.Between.{kept_between}
 use Rattle.nor_poll.proofs.Counting.{counted_exactly, counted_then}
 use Rattle.nor_poll.proofs.Reading.{darkens}
-use Rattle.nor_set1.specs.Word.{ProgramsWord, LosesWord, TearsWord, TellsBroken, IsStuckBy, WordHalts, TakesProgram}
+use Rattle.nor_poll.specs.Word.{ProgramsWord, LosesWord, TearsWord, TellsBroken, IsStuckBy, WordHalts, TakesProgram, word_most, word_stuck}
 use Rattle.nor_bank.specs.Programs.{datum_at, MeetsWord, CanProgram, ProgramsPart, Lasts, Leaves, LeavesBy, GivesUp, Changes, IsSound}
 use Rattle.nor_bank.specs.Ranges.{IsReadable}
 use Rattle.nor_bank.proofs.Anding.{and_again, between_and, in_range, differs, no_bits}
@@ -50,24 +52,24 @@ pub record OneRead (width : ℕ) (device : Device) (u at : ℕ) (new : List ℕ)
   pub anded : (k : ℕ) → slice_index word k ≡ bit_and (slice_index before k) (slice_index padded k)
 
 -- the bus has the words of the range
-pub reached : (width : ℕ) (g : Geometry) (limit u at len : ℕ) (old : BusState) → CanProgram width g limit at len old → MeetsWord width u at len → u < units_of old
-reached width g limit u at len old can meets =
+pub reached : (width : ℕ) (kind : Set) (g : Geometry) (limit u at len : ℕ) (old : BusState) → CanProgram width kind g limit at len old → MeetsWord width u at len → u < units_of old
+reached width kind g limit u at len old can meets =
     let within = can.within in
     let before = meets.before_end in
     let less : u * width < units_of old * width = omega (arith, within, before) in
     lt_of_mul-lt-mul_right width less
 
-pub one_read : (width : ℕ) (g : Geometry) (limit u at : ℕ) (new : List ℕ) (old mid : BusState) (before padded word : List ℕ)
-    → CanProgram width g limit at (length new) old → MeetsWord width u at (length new) → 0 < width → AreBytes before
+pub one_read : (width : ℕ) (kind : Set) (g : Geometry) (limit u at : ℕ) (new : List ℕ) (old mid : BusState) (before padded word : List ℕ)
+    → CanProgram width kind g limit at (length new) old → MeetsWord width u at (length new) → 0 < width → AreBytes before
     → Went 1 1 old mid → units_of mid ≡ units_of old
     → (u < units_of old → (c : ℕ) → c < lanes_of old → Reads (lane old c) u (lane_of (wide (lane old c)) before c) (lane mid c))
     → ((j : ℕ) → j < width → slice_index padded j ≡ datum_at at new (u * width + j))
     → ((k : ℕ) → slice_index word k ≡ bit_and (slice_index before k) (slice_index padded k))
     → OneRead width g.device u at new old mid before padded word
-one_read width g limit u at new old mid before padded word can meets some small went units reads pads anded = record {
+one_read width kind g limit u at new old mid before padded word can meets some small went units reads pads anded = record {
   went = went;
   units = units;
-  read = word_read width g.device u old mid before can.own.bank can.chips some went.kept.count small (reads (reached width g limit u at (length new) old can meets));
+  read = word_read width g.device u old mid before can.own.bank can.chips some went.kept.count small (reads (reached width kind g limit u at (length new) old can meets));
   pads = pads;
   anded = anded;
 }
@@ -114,30 +116,30 @@ one_skipped width device u at new old mid before padded word shows one same =
     }
 
 -- What is said of each lane's part of the word, of the chips before the read.
-part_of : (width : ℕ) (g : Geometry) (limit u at : ℕ) (new : List ℕ) (old mid now : BusState) (before padded word : List ℕ) (P : ℕ → ChipState → ChipState → Type 0)
-    → CanProgram width g limit at (length new) old → MeetsWord width u at (length new) → OneRead width g.device u at new old mid before padded word
+part_of : (width : ℕ) (kind : Set) (g : Geometry) (limit u at : ℕ) (new : List ℕ) (old mid now : BusState) (before padded word : List ℕ) (P : ℕ → ChipState → ChipState → Type 0)
+    → CanProgram width kind g limit at (length new) old → MeetsWord width u at (length new) → OneRead width g.device u at new old mid before padded word
     → (IsOwn width g mid → u < units_of mid → EachPart word P mid now) → EachPart word P old now
-part_of width g limit u at new old mid now before padded word P can meets one each =
-    let there : u < units_of mid = subst (λ (n : ℕ). u < n) (sym one.units) (reached width g limit u at (length new) old can meets) in
+part_of width kind g limit u at new old mid now before padded word P can meets one each =
+    let there : u < units_of mid = subst (λ (n : ℕ). u < n) (sym one.units) (reached width kind g limit u at (length new) old can meets) in
     subst (λ (ls : List ChipState). (c : ℕ) → c < length ls → P (lane_of (wide (chip_at ls c)) word c) (chip_at ls c) (lane now c)) one.read.same
     (each (own_kept width g old mid one.went.kept can.own) there)
 
-lane_takes : (width : ℕ) (g : Geometry) (limit u at len : ℕ) (old : BusState) → CanProgram width g limit at len old → MeetsWord width u at len → AllLanes (TakesProgram u) old
-lane_takes width g limit u at len old can meets c below = takes u (lane old c) (can.set c below) (can.chips c below) (can.free u meets c below)
+lane_takes : (width : ℕ) (kind : Set) (g : Geometry) (limit u at len : ℕ) (old : BusState) → CanProgram width kind g limit at len old → MeetsWord width u at len → AllLanes (TakesProgram kind u) old
+lane_takes width kind g limit u at len old can meets c below = takes kind u (lane old c) (can.set c below) (can.chips c below) (can.free u meets c below)
 
 -- a word that is done, where no place is weak
-pub one_done : (width : ℕ) (g : Geometry) (limit u at : ℕ) (new : List ℕ) (old mid now : BusState) (before padded word : List ℕ)
-    → CanProgram width g limit at (length new) old → MeetsWord width u at (length new) → AllLanes IsSound old → 0 < width → AreBytes word
+pub one_done : (width : ℕ) (kind : Set) (g : Geometry) (limit u at : ℕ) (new : List ℕ) (old mid now : BusState) (before padded word : List ℕ)
+    → CanProgram width kind g limit at (length new) old → MeetsWord width u at (length new) → AllLanes IsSound old → 0 < width → AreBytes word
     → OneRead width g.device u at new old mid before padded word → KeepsLanes mid now
-    → (IsOwn width g mid → u < units_of mid → EachPart word (ProgramsWord u) mid now)
+    → (IsOwn width g mid → u < units_of mid → EachPart word (ProgramsWord kind u) mid now)
     → ProgramsPart g.device at new (u * width) (u * width + width) old now
-one_done width g limit u at new old mid now before padded word can meets sound some small one kept programs =
+one_done width kind g limit u at new old mid now before padded word can meets sound some small one kept programs =
     let all = keeps_then old mid now one.went.kept kept in
-    let parts = part_of width g limit u at new old mid now before padded word (ProgramsWord u) can meets one programs in
-    let done = λ (c : ℕ) (below : c < lanes_of old). parts c below (lane_takes width g limit u at (length new) old can meets c below) in
-    let lane_done = λ (c : ℕ) (below : c < lanes_of old). lasts_done u (lane_of (wide (lane old c)) word c) (lane old c) (lane now c) (can.chips c below) (all.each c below) (done c below) in
+    let parts = part_of width kind g limit u at new old mid now before padded word (ProgramsWord kind u) can meets one programs in
+    let done = λ (c : ℕ) (below : c < lanes_of old). parts c below (lane_takes width kind g limit u at (length new) old can meets c below) in
+    let lane_done = λ (c : ℕ) (below : c < lanes_of old). lasts_done kind u (lane_of (wide (lane old c)) word c) (lane old c) (lane now c) (can.chips c below) (all.each c below) (done c below) in
     let to = word_to width g.device u (λ j x y. y ≡ bit_and x (slice_index word j)) old.lanes now.lanes can.own.bank some all.count
-    (λ c below. unit_done u c word (lane old c) (lane now c) small (sound c below) (done c below)) in
+    (λ c below. unit_done kind u c word (lane old c) (lane now c) small (sound c below) (done c below)) in
     record {
       lasts = λ c below. (lane_done c below).0;
       shown = λ c below. (lane_done c (subst (λ (n : ℕ). c < n) all.count below)).1;
@@ -169,26 +171,26 @@ leaves_of width device u at new old mid now before padded word one lasts to =
       ];
     }
 
-one_torn : (width : ℕ) (g : Geometry) (limit u at : ℕ) (new : List ℕ) (old mid now : BusState) (before padded word : List ℕ)
-    → CanProgram width g limit at (length new) old → MeetsWord width u at (length new) → 0 < width → AreBytes word
+one_torn : (width : ℕ) (kind : Set) (g : Geometry) (limit u at : ℕ) (new : List ℕ) (old mid now : BusState) (before padded word : List ℕ)
+    → CanProgram width kind g limit at (length new) old → MeetsWord width u at (length new) → 0 < width → AreBytes word
     → OneRead width g.device u at new old mid before padded word → KeepsLanes mid now
-    → (IsOwn width g mid → u < units_of mid → EachPart word (TearsWord u) mid now) → Leaves g.device at new old now
-one_torn width g limit u at new old mid now before padded word can meets some small one kept tears =
+    → (IsOwn width g mid → u < units_of mid → EachPart word (TearsWord kind u) mid now) → Leaves g.device at new old now
+one_torn width kind g limit u at new old mid now before padded word can meets some small one kept tears =
     let all = keeps_then old mid now one.went.kept kept in
-    let parts = part_of width g limit u at new old mid now before padded word (TearsWord u) can meets one tears in
-    let torn = λ (c : ℕ) (below : c < lanes_of old). parts c below (lane_takes width g limit u at (length new) old can meets c below) in
+    let parts = part_of width kind g limit u at new old mid now before padded word (TearsWord kind u) can meets one tears in
+    let torn = λ (c : ℕ) (below : c < lanes_of old). parts c below (lane_takes width kind g limit u at (length new) old can meets c below) in
     leaves_of width g.device u at new old mid now before padded word one
     (λ c below. lasts_unmoved (lane old c) (lane now c) (can.chips c below) (all.each c below) (torn c below).keeps)
     (word_to width g.device u (λ j x y. IsBetween x (slice_index word j) y) old.lanes now.lanes can.own.bank some all.count (λ c below. unit_torn u c word (lane old c) (lane now c) small (torn c below)))
 
-one_lost : (width : ℕ) (g : Geometry) (limit u at : ℕ) (new : List ℕ) (old mid now : BusState) (before padded word : List ℕ)
-    → CanProgram width g limit at (length new) old → MeetsWord width u at (length new) → 0 < width → AreBytes word
+one_lost : (width : ℕ) (kind : Set) (g : Geometry) (limit u at : ℕ) (new : List ℕ) (old mid now : BusState) (before padded word : List ℕ)
+    → CanProgram width kind g limit at (length new) old → MeetsWord width u at (length new) → 0 < width → AreBytes word
     → OneRead width g.device u at new old mid before padded word → KeepsLanes mid now
-    → (IsOwn width g mid → u < units_of mid → EachPart word (LosesWord u) mid now) → Leaves g.device at new old now
-one_lost width g limit u at new old mid now before padded word can meets some small one kept loses =
+    → (IsOwn width g mid → u < units_of mid → EachPart word (LosesWord kind u) mid now) → Leaves g.device at new old now
+one_lost width kind g limit u at new old mid now before padded word can meets some small one kept loses =
     let all = keeps_then old mid now one.went.kept kept in
-    let parts = part_of width g limit u at new old mid now before padded word (LosesWord u) can meets one loses in
-    let lost = λ (c : ℕ) (below : c < lanes_of old). parts c below (lane_takes width g limit u at (length new) old can meets c below) in
+    let parts = part_of width kind g limit u at new old mid now before padded word (LosesWord kind u) can meets one loses in
+    let lost = λ (c : ℕ) (below : c < lanes_of old). parts c below (lane_takes width kind g limit u at (length new) old can meets c below) in
     leaves_of width g.device u at new old mid now before padded word one
     (λ c below. lasts_unmoved (lane old c) (lane now c) (can.chips c below) (all.each c below) (lost c below).keeps)
     (word_to width g.device u (λ j x y. IsBetween x (slice_index word j) y) old.lanes now.lanes can.own.bank some all.count
@@ -225,18 +227,18 @@ one_changes width device u at new old mid before padded word bank shows one long
     }
 
 -- what is left where a word was given up
-pub one_leaves : (width : ℕ) (g : Geometry) (limit u at : ℕ) (new : List ℕ) (old mid now : BusState) (before padded word : List ℕ) (halt : Halt)
-    → CanProgram width g limit at (length new) old → MeetsWord width u at (length new) → 0 < width → AreBytes word → length word ≡ width → length before ≡ width → word ≢ before
-    → OneRead width g.device u at new old mid before padded word → WordHalts width g u word limit mid now halt → LeavesBy g.device at new (u * width) halt old now
-one_leaves width g limit u at new old mid now before padded word Off can meets some small long size apart one halts =
-    one_lost width g limit u at new old mid now before padded word can meets some small one halts.0.kept halts.1
-one_leaves width g limit u at new old mid now before padded word (Stuck k) can meets some small long size apart one halts =
+pub one_leaves : (width : ℕ) (kind : Set) (g : Geometry) (limit u at : ℕ) (new : List ℕ) (old mid now : BusState) (before padded word : List ℕ) (halt : Halt)
+    → CanProgram width kind g limit at (length new) old → MeetsWord width u at (length new) → 0 < width → AreBytes word → length word ≡ width → length before ≡ width → word ≢ before
+    → OneRead width g.device u at new old mid before padded word → WordHalts kind width g u word limit mid now halt → LeavesBy g.device at new (u * width) halt old now
+one_leaves width kind g limit u at new old mid now before padded word Off can meets some small long size apart one halts =
+    one_lost width kind g limit u at new old mid now before padded word can meets some small one halts.0.kept halts.1
+one_leaves width kind g limit u at new old mid now before padded word (Stuck k) can meets some small long size apart one halts =
     let own = own_kept width g old mid one.went.kept can.own in
-    let there : u < units_of mid = subst (λ (n : ℕ). u < n) (sym one.units) (reached width g limit u at (length new) old can meets) in
+    let there : u < units_of mid = subst (λ (n : ℕ). u < n) (sym one.units) (reached width kind g limit u at (length new) old can meets) in
     let below : k < lanes_of old = subst (λ (n : ℕ). k < n) (sym can.own.count) halts.0 in
-    let stuck : IsStuckBy u limit (lane old k) = subst (λ (ls : List ChipState). IsStuckBy u limit (chip_at ls k)) one.read.same (halts.3 own there) in (
-      one_torn width g limit u at new old mid now before padded word can meets some small one halts.1.kept halts.2,
-      stuck (lane_takes width g limit u at (length new) old can meets k below) (can.limits k below),
+    let stuck : IsStuckBy kind u limit (lane old k) = subst (λ (ls : List ChipState). IsStuckBy kind u limit (chip_at ls k)) one.read.same (halts.3 own there) in (
+      one_torn width kind g limit u at new old mid now before padded word can meets some small one halts.1.kept halts.2,
+      stuck (lane_takes width kind g limit u at (length new) old can meets k below) (can.limits k below),
       one_changes width g.device u at new old mid before padded word can.own.bank can.chips one long size apart,
     )
 
@@ -263,29 +265,34 @@ dark_leaves width device at new old now bank shows kept fails =
 unit_sound : (u v : ℕ) (s : ChipState) → IsSound s → unit_breaks u v s ≡ false
 unit_sound u v s sound = ap (λ (weak : List ℕ). is_some (break_of (unit_len s.part.device) weak (place s.part u) (unit_bytes s.part.device v) s.cells)) sound
 
-pub one_sound : (width : ℕ) (g : Geometry) (limit u at bits : ℕ) (new : List ℕ) (old mid : BusState) (before padded word : List ℕ)
-    → CanProgram width g limit at (length new) old → MeetsWord width u at (length new) → AllLanes IsSound old → OneRead width g.device u at new old mid before padded word
-    → (IsOwn width g mid → u < units_of mid → (c : ℕ) → c < lanes_of mid → TellsBroken u (has_bit bits c) (lane_of (wide (lane mid c)) word c) (lane mid c))
+pub one_sound : (width : ℕ) (kind : Set) (g : Geometry) (limit u at bits : ℕ) (new : List ℕ) (old mid : BusState) (before padded word : List ℕ)
+    → CanProgram width kind g limit at (length new) old → MeetsWord width u at (length new) → AllLanes IsSound old → OneRead width g.device u at new old mid before padded word
+    → (IsOwn width g mid → u < units_of mid → (c : ℕ) → c < lanes_of mid → TellsBroken kind u (has_bit bits c) (lane_of (wide (lane mid c)) word c) (lane mid c))
     → ((c : ℕ) → g.lanes ≤ c → has_bit bits c ≡ false) → bits ≡ 0
-one_sound width g limit u at bits new old mid before padded word can meets sound one tells past =
-    let there : u < units_of mid = subst (λ (n : ℕ). u < n) (sym one.units) (reached width g limit u at (length new) old can meets) in
-    let told : (c : ℕ) → c < lanes_of old → TellsBroken u (has_bit bits c) (lane_of (wide (lane old c)) word c) (lane old c) =
-    subst (λ (ls : List ChipState). (c : ℕ) → c < length ls → TellsBroken u (has_bit bits c) (lane_of (wide (chip_at ls c)) word c) (chip_at ls c)) one.read.same
+one_sound width kind g limit u at bits new old mid before padded word can meets sound one tells past =
+    let there : u < units_of mid = subst (λ (n : ℕ). u < n) (sym one.units) (reached width kind g limit u at (length new) old can meets) in
+    let told : (c : ℕ) → c < lanes_of old → TellsBroken kind u (has_bit bits c) (lane_of (wide (lane old c)) word c) (lane old c) =
+    subst (λ (ls : List ChipState). (c : ℕ) → c < length ls → TellsBroken kind u (has_bit bits c) (lane_of (wide (chip_at ls c)) word c) (chip_at ls c)) one.read.same
     (tells (own_kept width g old mid one.went.kept can.own) there) in
     no_bits bits (λ c. elim (cases_lt c g.lanes) [
       | inl low ↦
           let below : c < lanes_of old = subst (λ (n : ℕ). c < n) (sym can.own.count) low in
-          told c below (lane_takes width g limit u at (length new) old can meets c below) ∙ unit_sound u (lane_of (wide (lane old c)) word c) (lane old c) (sound c below)
+          told c below (lane_takes width kind g limit u at (length new) old can meets c below) ∙ unit_sound u (lane_of (wide (lane old c)) word c) (lane old c) (sound c below)
       | inr high ↦ past c high
     ])
 
 -- ---- its cycles
 
-pub one_counted : (limit : ℕ) (old mid now : BusState) → Went 1 1 old mid → Counted 5 (limit + 5) mid now → Counted 1 (limit + 6) old now
-one_counted limit old mid now went counted = counted_then 1 1 5 (limit + 5) 1 (limit + 6) old mid now (omega arith) (omega arith) (counted_exactly 1 old mid went) counted
+stuck_within : (kind : Set) (limit : ℕ) → (limit ≤ 1 + word_stuck kind limit) × (1 + word_stuck kind limit ≤ word_most kind limit + 1)
+stuck_within Intel limit = (omega arith, omega arith)
+stuck_within Amd limit = (omega arith, omega arith)
 
-pub one_gives_up : (width : ℕ) (g : Geometry) (limit u : ℕ) (word : List ℕ) (old mid now : BusState) (halt : Halt) → Went 1 1 old mid → WordHalts width g u word limit mid now halt
-    → GivesUp g.lanes limit (limit + 6) halt old now
-one_gives_up width g limit u word old mid now Off went halts = lost_then 1 1 (limit + 5) (limit + 6) old mid now (omega arith) went halts.0
-one_gives_up width g limit u word old mid now (Stuck k) went halts =
-    (halts.0, counted_then 1 1 (limit + 3) (limit + 3) limit (limit + 6) old mid now (omega arith) (omega arith) (counted_exactly 1 old mid went) (counted_exactly (limit + 3) mid now halts.1))
+pub one_counted : (kind : Set) (limit : ℕ) (old mid now : BusState) → Went 1 1 old mid → Counted 5 (word_most kind limit) mid now → Counted 1 (word_most kind limit + 1) old now
+one_counted kind limit old mid now went counted = counted_then 1 1 5 (word_most kind limit) 1 (word_most kind limit + 1) old mid now (omega arith) (omega arith) (counted_exactly 1 old mid went) counted
+
+pub one_gives_up : (width : ℕ) (kind : Set) (g : Geometry) (limit u : ℕ) (word : List ℕ) (old mid now : BusState) (halt : Halt) → Went 1 1 old mid → WordHalts kind width g u word limit mid now halt
+    → GivesUp g.lanes limit (word_most kind limit + 1) halt old now
+one_gives_up width kind g limit u word old mid now Off went halts = lost_then 1 1 (word_most kind limit) (word_most kind limit + 1) old mid now (omega arith) went halts.0
+one_gives_up width kind g limit u word old mid now (Stuck k) went halts =
+    let few = stuck_within kind limit in
+    (halts.0, counted_then 1 1 (word_stuck kind limit) (word_stuck kind limit) limit (word_most kind limit + 1) old mid now few.0 few.1 (counted_exactly 1 old mid went) (counted_exactly (word_stuck kind limit) mid now halts.1))

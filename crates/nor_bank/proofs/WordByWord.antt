@@ -9,11 +9,14 @@ use Rattle.nor_cell.specs.Chip.{ChipState, Part, has_blocks, block_of, block_at,
 use Rattle.nor_cell.specs.Table.{left_at_start}
 use Rattle.nor_cell.specs.declared.device.Device.{Device}
 use Rattle.nor_cell.specs.declared.device.Work.TheVariants.{Word}
+use Rattle.nor_cell.specs.declared.device.Set.{Set}
+use Rattle.nor_cell.specs.declared.device.Set.TheVariants.{Intel, Amd}
 use Rattle.nor_cell.specs.declared.geometry.Geometry.{Geometry}
 use Rattle.nor_bus.specs.Bus.{BusState, lane, lanes_of, bank_byte, units_of}
 use Rattle.nor_bus.specs.Driven.{AllLanes, EachLane}
 use Rattle.nor_bus.proofs.Driving.{own_kept, went_none}
 use Rattle.nor_poll.specs.Counted.{Counted}
+use Rattle.nor_poll.specs.Word.{word_most}
 use Rattle.nor_poll.specs.Words.{word_reads}
 use Rattle.nor_poll.specs.declared.lanes.Halt.{Halt}
 use Rattle.nor_poll.specs.declared.lanes.Halt.TheVariants.{Off, Stuck}
@@ -60,9 +63,9 @@ sound_lasts old now count lasts sound c below =
     let there = before old now c count below in
     ap (λ (p : Part). p.weak) (lasts c there).part ∙ sound c there
 
-pub can_lasts : (width : ℕ) (g : Geometry) (limit at : ℕ) (new : List ℕ) (next least most : ℕ) (old now : BusState) → Counted least most old now → units_of now ≡ units_of old
-    → CanProgram width g limit at (length new) old → ProgramsTo g.device at new next old now → CanProgram width g limit at (length new) now
-can_lasts width g limit at new next least most old now counted units can to =
+pub can_lasts : (width : ℕ) (kind : Set) (g : Geometry) (limit at : ℕ) (new : List ℕ) (next least most : ℕ) (old now : BusState) → Counted least most old now → units_of now ≡ units_of old
+    → CanProgram width kind g limit at (length new) old → ProgramsTo g.device at new next old now → CanProgram width kind g limit at (length new) now
+can_lasts width kind g limit at new next least most old now counted units can to =
     let count = counted.went.kept.count in
     let there = λ (c : ℕ) (below : c < lanes_of now). before old now c count below in
     record {
@@ -77,14 +80,14 @@ can_lasts width g limit at new next least most old now counted units can to =
 -- ---- word after word
 
 -- The words before u are done, of a range that begins at `at`, in at most so many cycles.
-pub record ProgrammedTo (width : ℕ) (g : Geometry) (limit u at first : ℕ) (new : List ℕ) (old now : BusState) : Type 0 where
-  pub counted : Counted (u - first) ((u - first) * (limit + 6)) old now
+pub record ProgrammedTo (width : ℕ) (kind : Set) (g : Geometry) (limit u at first : ℕ) (new : List ℕ) (old now : BusState) : Type 0 where
+  pub counted : Counted (u - first) ((u - first) * (word_most kind limit + 1)) old now
   pub units : units_of now ≡ units_of old
-  pub programs : CanProgram width g limit at (length new) old → AllLanes IsSound old → ProgramsTo g.device at new (u * width) old now
+  pub programs : CanProgram width kind g limit at (length new) old → AllLanes IsSound old → ProgramsTo g.device at new (u * width) old now
 
-pub programs_none : (width : ℕ) (g : Geometry) (limit u at first : ℕ) (new : List ℕ) (bus : BusState) → u ≡ at / width → first ≡ u
-    → ProgrammedTo width g limit u at first new bus bus
-programs_none width g limit u at first new bus is same = record {
+pub programs_none : (width : ℕ) (kind : Set) (g : Geometry) (limit u at first : ℕ) (new : List ℕ) (bus : BusState) → u ≡ at / width → first ≡ u
+    → ProgrammedTo width kind g limit u at first new bus bus
+programs_none width kind g limit u at first new bus is same = record {
   counted = record { cycles = 0; enough = omega arith; few = omega arith; went = went_none bus };
   units = refl;
   programs = λ can sound.
@@ -133,28 +136,28 @@ programs_on width device u at new old now after count to part =
     }
 
 -- one word more
-pub programs_more : (width : ℕ) (g : Geometry) (limit u at first : ℕ) (new : List ℕ) (old now after : BusState) → IsOfRange at (length new) width first u → ProgrammedTo width g limit u at first new old now
-    → Counted 1 (limit + 6) now after → units_of after ≡ units_of now
-    → (CanProgram width g limit at (length new) now → MeetsWord width u at (length new) → AllLanes IsSound now → ProgramsPart g.device at new (u * width) (u * width + width) now after)
-    → ProgrammedTo width g limit (u + 1) at first new old after
-programs_more width g limit u at first new old now after of so counted units part = record {
+pub programs_more : (width : ℕ) (kind : Set) (g : Geometry) (limit u at first : ℕ) (new : List ℕ) (old now after : BusState) → IsOfRange at (length new) width first u → ProgrammedTo width kind g limit u at first new old now
+    → Counted 1 (word_most kind limit + 1) now after → units_of after ≡ units_of now
+    → (CanProgram width kind g limit at (length new) now → MeetsWord width u at (length new) → AllLanes IsSound now → ProgramsPart g.device at new (u * width) (u * width + width) now after)
+    → ProgrammedTo width kind g limit (u + 1) at first new old after
+programs_more width kind g limit u at first new old now after of so counted units part = record {
   counted =
       let from = of.from in
       let words : u + 1 - first ≡ u - first + 1 = omega (arith, from) in
-      let cycles : (u + 1 - first) * (limit + 6) ≡ (u - first + 1) * (limit + 6) = ap (λ (n : ℕ). n * (limit + 6)) words in
-      counted_then (u - first) ((u - first) * (limit + 6)) 1 (limit + 6) (u + 1 - first) ((u + 1 - first) * (limit + 6)) old now after (omega (arith, words)) (omega (arith, cycles)) so.counted counted;
+      let cycles : (u + 1 - first) * (word_most kind limit + 1) ≡ (u - first + 1) * (word_most kind limit + 1) = ap (λ (n : ℕ). n * (word_most kind limit + 1)) words in
+      counted_then (u - first) ((u - first) * (word_most kind limit + 1)) 1 (word_most kind limit + 1) (u + 1 - first) ((u + 1 - first) * (word_most kind limit + 1)) old now after (omega (arith, words)) (omega (arith, cycles)) so.counted counted;
   units = units ∙ so.units;
   programs = λ can sound.
       let to = so.programs can sound in
       let count = so.counted.went.kept.count in
       programs_on width g.device u at new old now after count to
-      (part (can_lasts width g limit at new (u * width) (u - first) ((u - first) * (limit + 6)) old now so.counted so.units can to) of.meets (sound_lasts old now count to.lasts sound));
+      (part (can_lasts width kind g limit at new (u * width) (u - first) ((u - first) * (word_most kind limit + 1)) old now so.counted so.units can to) of.meets (sound_lasts old now count to.lasts sound));
 }
 
 -- all words of the range
-pub programs_all : (width : ℕ) (g : Geometry) (limit u at first last : ℕ) (new : List ℕ) (old now : BusState) → 0 < width → 0 < length new → last ≡ (at + length new - 1) / width → last + 1 ≤ u
-    → ProgrammedTo width g limit u at first new old now → CanProgram width g limit at (length new) old → AllLanes IsSound old → ProgramsTo g.device at new (at + length new) old now
-programs_all width g limit u at first last new old now some more ends past so can sound =
+pub programs_all : (width : ℕ) (kind : Set) (g : Geometry) (limit u at first last : ℕ) (new : List ℕ) (old now : BusState) → 0 < width → 0 < length new → last ≡ (at + length new - 1) / width → last + 1 ≤ u
+    → ProgrammedTo width kind g limit u at first new old now → CanProgram width kind g limit at (length new) old → AllLanes IsSound old → ProgramsTo g.device at new (at + length new) old now
+programs_all width kind g limit u at first last new old now some more ends past so can sound =
     let to = so.programs can sound in
     let behind = past_last (at + length new - 1) width u some (omega (arith, ends, past)) in
     let reach : at + length new ≤ u * width = omega (arith, behind, more) in
@@ -175,21 +178,21 @@ programs_all width g limit u at first last new old now some more ends past so ca
 one_more : (n m k : ℕ) → n + 1 ≤ m → n * k + k ≤ m * k
 one_more n m k le = let more = mul-le-mul_right k le in omega (arith, more)
 
-pub counted_more : (width : ℕ) (g : Geometry) (limit u at first : ℕ) (new : List ℕ) (old now after : BusState) → IsOfRange at (length new) width first u → ProgrammedTo width g limit u at first new old now
-    → Counted 1 (limit + 6) now after → Counted 1 (words_met at (length new) width * (limit + 6)) old after
-counted_more width g limit u at first new old now after of so counted =
+pub counted_more : (width : ℕ) (kind : Set) (g : Geometry) (limit u at first : ℕ) (new : List ℕ) (old now after : BusState) → IsOfRange at (length new) width first u → ProgrammedTo width kind g limit u at first new old now
+    → Counted 1 (word_most kind limit + 1) now after → Counted 1 (words_met at (length new) width * (word_most kind limit + 1)) old after
+counted_more width kind g limit u at first new old now after of so counted =
     let words = words_met at (length new) width in
-    let most = one_more (u - first) words (limit + 6) of.left in
-    counted_then (u - first) ((u - first) * (limit + 6)) 1 (limit + 6) 1 (words * (limit + 6)) old now after (omega arith) most so.counted counted
+    let most = one_more (u - first) words (word_most kind limit + 1) of.left in
+    counted_then (u - first) ((u - first) * (word_most kind limit + 1)) 1 (word_most kind limit + 1) 1 (words * (word_most kind limit + 1)) old now after (omega arith) most so.counted counted
 
-pub gives_up_more : (width : ℕ) (g : Geometry) (limit u at first : ℕ) (new : List ℕ) (old now after : BusState) (halt : Halt) → IsOfRange at (length new) width first u
-    → ProgrammedTo width g limit u at first new old now → GivesUp g.lanes limit (limit + 6) halt now after → GivesUp g.lanes limit (words_met at (length new) width * (limit + 6)) halt old after
-gives_up_more width g limit u at first new old now after Off of so lost =
+pub gives_up_more : (width : ℕ) (kind : Set) (g : Geometry) (limit u at first : ℕ) (new : List ℕ) (old now after : BusState) (halt : Halt) → IsOfRange at (length new) width first u
+    → ProgrammedTo width kind g limit u at first new old now → GivesUp g.lanes limit (word_most kind limit + 1) halt now after → GivesUp g.lanes limit (words_met at (length new) width * (word_most kind limit + 1)) halt old after
+gives_up_more width kind g limit u at first new old now after Off of so lost =
     let words = words_met at (length new) width in
-    counted_lost (u - first) ((u - first) * (limit + 6)) (limit + 6) (words * (limit + 6)) old now after (one_more (u - first) words (limit + 6) of.left) so.counted lost
-gives_up_more width g limit u at first new old now after (Stuck k) of so stuck =
+    counted_lost (u - first) ((u - first) * (word_most kind limit + 1)) (word_most kind limit + 1) (words * (word_most kind limit + 1)) old now after (one_more (u - first) words (word_most kind limit + 1) of.left) so.counted lost
+gives_up_more width kind g limit u at first new old now after (Stuck k) of so stuck =
     let words = words_met at (length new) width in
-    (stuck.0, counted_then (u - first) ((u - first) * (limit + 6)) limit (limit + 6) limit (words * (limit + 6)) old now after (omega arith) (one_more (u - first) words (limit + 6) of.left) so.counted stuck.1)
+    (stuck.0, counted_then (u - first) ((u - first) * (word_most kind limit + 1)) limit (word_most kind limit + 1) limit (words * (word_most kind limit + 1)) old now after (omega arith) (one_more (u - first) words (word_most kind limit + 1) of.left) so.counted stuck.1)
 
 -- bits between old AND d and d are bits between old and d
 between_on : (x d y : ℕ) → IsBetween (bit_and x d) d y → IsBetween x d y
@@ -228,29 +231,29 @@ changes_on device at next new old now to changes =
       changes = subst (λ (x : ℕ). bit_and x (slice_index new (changes.place - at)) ≢ x) same changes.changes;
     }
 
-leaves_by : (width : ℕ) (g : Geometry) (limit u at most : ℕ) (new : List ℕ) (old now after : BusState) (halt : Halt) → lanes_of now ≡ lanes_of old → lanes_of old ≡ g.lanes
+leaves_by : (width : ℕ) (kind : Set) (g : Geometry) (limit u at most : ℕ) (new : List ℕ) (old now after : BusState) (halt : Halt) → lanes_of now ≡ lanes_of old → lanes_of old ≡ g.lanes
     → ProgramsTo g.device at new (u * width) old now → GivesUp g.lanes limit most halt now after → LeavesBy g.device at new (u * width) halt now after → LeavesBy g.device at new at halt old after
-leaves_by width g limit u at most new old now after Off count lanes to gave leaves = leaves_on g.device at (u * width) new old now after count to leaves
-leaves_by width g limit u at most new old now after (Stuck k) count lanes to gave leaves = (
+leaves_by width kind g limit u at most new old now after Off count lanes to gave leaves = leaves_on g.device at (u * width) new old now after count to leaves
+leaves_by width kind g limit u at most new old now after (Stuck k) count lanes to gave leaves = (
   leaves_on g.device at (u * width) new old now after count to leaves.0,
   sym (ap (λ (p : Part). p.stuck) (to.lasts k (subst (λ (n : ℕ). k < n) (sym lanes) gave.0)).part) ∙ leaves.1,
   changes_on g.device at (u * width) new old now to leaves.2,
 )
 
-pub leaves_more : (width : ℕ) (g : Geometry) (limit u at first most : ℕ) (new : List ℕ) (old now after : BusState) (halt : Halt) → IsOfRange at (length new) width first u
-    → ProgrammedTo width g limit u at first new old now → CanProgram width g limit at (length new) old → AllLanes IsSound old → GivesUp g.lanes limit most halt now after
-    → (CanProgram width g limit at (length new) now → MeetsWord width u at (length new) → LeavesBy g.device at new (u * width) halt now after)
+pub leaves_more : (width : ℕ) (kind : Set) (g : Geometry) (limit u at first most : ℕ) (new : List ℕ) (old now after : BusState) (halt : Halt) → IsOfRange at (length new) width first u
+    → ProgrammedTo width kind g limit u at first new old now → CanProgram width kind g limit at (length new) old → AllLanes IsSound old → GivesUp g.lanes limit most halt now after
+    → (CanProgram width kind g limit at (length new) now → MeetsWord width u at (length new) → LeavesBy g.device at new (u * width) halt now after)
     → LeavesBy g.device at new at halt old after
-leaves_more width g limit u at first most new old now after halt of so can sound gave leaves =
+leaves_more width kind g limit u at first most new old now after halt of so can sound gave leaves =
     let to = so.programs can sound in
-    leaves_by width g limit u at most new old now after halt so.counted.went.kept.count can.own.count to gave
-    (leaves (can_lasts width g limit at new (u * width) (u - first) ((u - first) * (limit + 6)) old now so.counted so.units can to) of.meets)
+    leaves_by width kind g limit u at most new old now after halt so.counted.went.kept.count can.own.count to gave
+    (leaves (can_lasts width kind g limit at new (u * width) (u - first) ((u - first) * (word_most kind limit + 1)) old now so.counted so.units can to) of.meets)
 
 -- no lane breaks off
-pub sound_more : (width : ℕ) (g : Geometry) (limit u at first bits : ℕ) (new : List ℕ) (old now : BusState) → IsOfRange at (length new) width first u → ProgrammedTo width g limit u at first new old now
-    → CanProgram width g limit at (length new) old → AllLanes IsSound old
-    → (CanProgram width g limit at (length new) now → MeetsWord width u at (length new) → AllLanes IsSound now → bits ≡ 0) → bits ≡ 0
-sound_more width g limit u at first bits new old now of so can sound none =
+pub sound_more : (width : ℕ) (kind : Set) (g : Geometry) (limit u at first bits : ℕ) (new : List ℕ) (old now : BusState) → IsOfRange at (length new) width first u → ProgrammedTo width kind g limit u at first new old now
+    → CanProgram width kind g limit at (length new) old → AllLanes IsSound old
+    → (CanProgram width kind g limit at (length new) now → MeetsWord width u at (length new) → AllLanes IsSound now → bits ≡ 0) → bits ≡ 0
+sound_more width kind g limit u at first bits new old now of so can sound none =
     let to = so.programs can sound in
-    none (can_lasts width g limit at new (u * width) (u - first) ((u - first) * (limit + 6)) old now so.counted so.units can to) of.meets
+    none (can_lasts width kind g limit at new (u * width) (u - first) ((u - first) * (word_most kind limit + 1)) old now so.counted so.units can to) of.meets
     (sound_lasts old now so.counted.went.kept.count to.lasts sound)

@@ -156,8 +156,8 @@ impl<W: BusWord, B: Bus<W>> Bank<W, B> {
     /// number of the armed cut, or where a lane was read working as often as its table allows; then
     /// each byte of the range has bits between what it was and what is programmed.
     ///
-    /// What it makes holds where the bank is of set 0001, no chip has a weak place, and no block of the
-    /// range is locked. At most 6 bus cycles and the table's limit for each bus word.
+    /// What it makes holds where no chip has a weak place, and no block of the range is locked. For each
+    /// bus word it asks for at most 10 cycles and twice the table's limit.
     pub fn program(&mut self, caller: u8, at: u32, from: &[u8]) -> Reply
         ensures makes { (self.old).erase ≡ None → IsBuilt self.old → (a : ArrayState) → Stands self.old a → first_locked a (Program at from.now) ≡ None
             → MakesEntry self.old self.new (entry_of self.old self.new caller (Program at from.now) result []) a }

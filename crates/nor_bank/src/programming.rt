@@ -3,17 +3,18 @@ ghost use Rattle.nor_cell.specs.Wiring.{is_wiring};
 ghost use Rattle.nor_bus.specs.Bus.{units_of};
 ghost use Rattle.nor_bus.specs.Driven.{AllLanes};
 ghost use Rattle.nor_poll.specs.Counted.{Counted};
+ghost use Rattle.nor_poll.specs.Word.{word_most};
 ghost use Rattle.nor_array.specs.declared.entry.Reply.TheVariants.{Failed};
 ghost use Rattle.nor_bank.specs.Programs.{datum_at, MeetsWord, CanProgram, ProgramsTo, ProgramsPart, LeavesBy, GivesUp, IsSound};
 ghost use Rattle.nor_bank.specs.Ranges.{words_met};
 ghost use Rattle.nor_bank.specs.declared.programming.Broken.{Broken};
 
+use crate::command::program_word;
 use crate::reading::word_of;
 use nor_array::Reply;
 use nor_bus::{Bus, read_word};
-use nor_cell::Geometry;
+use nor_cell::{Geometry, Set};
 use nor_poll::{Halt, LaneSet};
-use nor_set1::program_word;
 use nor_word::BusWord;
 
 /// The bus word in which some lanes broke off.
@@ -42,6 +43,7 @@ fn pad_word<W: BusWord>(u: u32, at: u32, new: &[u8]) -> W
 // Programs the part of a range that lies in bus word `u`, if that changes it.
 fn program_one<W: BusWord, B: Bus<W>>(
     bus: &mut B,
+    kind: Set,
     g: Geometry,
     u: u32,
     at: u32,
@@ -49,11 +51,11 @@ fn program_one<W: BusWord, B: Bus<W>>(
     limit: u32,
 ) -> Result<LaneSet, Halt>
     requires wiring { IsTrue (is_wiring W.WIDTH g.lanes g.device) }
-    ensures programs { OnOk result (CanProgram W.WIDTH g limit at (length new.now) (B.state bus.old) → MeetsWord W.WIDTH u at (length new.now) → AllLanes IsSound (B.state bus.old) → ProgramsPart g.device at new.now (u * W.WIDTH) (u * W.WIDTH + W.WIDTH) (B.state bus.old) (B.state bus.new)) }
-    ensures sound { IfOk result (λ set. CanProgram W.WIDTH g limit at (length new.now) (B.state bus.old) → MeetsWord W.WIDTH u at (length new.now) → AllLanes IsSound (B.state bus.old) → set.bits ≡ 0) }
-    ensures counted { OnOk result (Counted 1 (limit + 6) (B.state bus.old) (B.state bus.new)) }
-    ensures halts { IfErr result (λ halt. GivesUp g.lanes limit (limit + 6) halt (B.state bus.old) (B.state bus.new)) }
-    ensures leaves { IfErr result (λ halt. CanProgram W.WIDTH g limit at (length new.now) (B.state bus.old) → MeetsWord W.WIDTH u at (length new.now) → LeavesBy g.device at new.now (u * W.WIDTH) halt (B.state bus.old) (B.state bus.new)) }
+    ensures programs { OnOk result (CanProgram W.WIDTH kind g limit at (length new.now) (B.state bus.old) → MeetsWord W.WIDTH u at (length new.now) → AllLanes IsSound (B.state bus.old) → ProgramsPart g.device at new.now (u * W.WIDTH) (u * W.WIDTH + W.WIDTH) (B.state bus.old) (B.state bus.new)) }
+    ensures sound { IfOk result (λ lanes. CanProgram W.WIDTH kind g limit at (length new.now) (B.state bus.old) → MeetsWord W.WIDTH u at (length new.now) → AllLanes IsSound (B.state bus.old) → lanes.bits ≡ 0) }
+    ensures counted { OnOk result (Counted 1 (word_most kind limit + 1) (B.state bus.old) (B.state bus.new)) }
+    ensures halts { IfErr result (λ halt. GivesUp g.lanes limit (word_most kind limit + 1) halt (B.state bus.old) (B.state bus.new)) }
+    ensures leaves { IfErr result (λ halt. CanProgram W.WIDTH kind g limit at (length new.now) (B.state bus.old) → MeetsWord W.WIDTH u at (length new.now) → LeavesBy g.device at new.now (u * W.WIDTH) halt (B.state bus.old) (B.state bus.new)) }
     ensures units { units_of (B.state bus.new) ≡ units_of (B.state bus.old) }
 {
     let old: W = read_word::<W, B>(bus, u)?;
@@ -61,14 +63,14 @@ fn program_one<W: BusWord, B: Bus<W>>(
     if word.equals(old) {
         return Ok(LaneSet { bits: 0 });
     }
-    program_word::<W, B>(bus, g, u, word, limit)
+    program_word::<W, B>(bus, kind, g, u, word, limit)
 }
 
 /// Programs a range that isn't empty, bus word by bus word in ascending order, up to the first in which
-/// a lane breaks off. It makes one cycle for each bus word, and at most `limit + 5` more for one that
-/// changes.
+/// a lane breaks off. It makes one cycle for each bus word, and for one that changes those of its program.
 pub(crate) fn program_range<W: BusWord, B: Bus<W>>(
     bus: &mut B,
+    kind: Set,
     g: Geometry,
     at: u32,
     new: &[u8],
@@ -77,18 +79,18 @@ pub(crate) fn program_range<W: BusWord, B: Bus<W>>(
     requires wiring { IsTrue (is_wiring W.WIDTH g.lanes g.device) }
     requires some { 0 < length new.now }
     requires few { at + length new.now < 2 ^ 32 }
-    ensures programs { result ≡ Ok None → CanProgram W.WIDTH g limit at (length new.now) (B.state bus.old) → AllLanes IsSound (B.state bus.old) → ProgramsTo g.device at new.now (at + length new.now) (B.state bus.old) (B.state bus.new) }
-    ensures sound { (broken : Broken) → result ≡ Ok (Some broken) → CanProgram W.WIDTH g limit at (length new.now) (B.state bus.old) → AllLanes IsSound (B.state bus.old) → ⊥ }
-    ensures counted { OnOk result (Counted 1 (words_met at (length new.now) W.WIDTH * (limit + 6)) (B.state bus.old) (B.state bus.new)) }
+    ensures programs { result ≡ Ok None → CanProgram W.WIDTH kind g limit at (length new.now) (B.state bus.old) → AllLanes IsSound (B.state bus.old) → ProgramsTo g.device at new.now (at + length new.now) (B.state bus.old) (B.state bus.new) }
+    ensures sound { (broken : Broken) → result ≡ Ok (Some broken) → CanProgram W.WIDTH kind g limit at (length new.now) (B.state bus.old) → AllLanes IsSound (B.state bus.old) → ⊥ }
+    ensures counted { OnOk result (Counted 1 (words_met at (length new.now) W.WIDTH * (word_most kind limit + 1)) (B.state bus.old) (B.state bus.new)) }
     ensures there { (broken : Broken) → result ≡ Ok (Some broken) → MeetsWord W.WIDTH broken.unit at (length new.now) }
-    ensures halts { IfErr result (λ halt. GivesUp g.lanes limit (words_met at (length new.now) W.WIDTH * (limit + 6)) halt (B.state bus.old) (B.state bus.new)) }
-    ensures leaves { IfErr result (λ halt. CanProgram W.WIDTH g limit at (length new.now) (B.state bus.old) → AllLanes IsSound (B.state bus.old) → LeavesBy g.device at new.now at halt (B.state bus.old) (B.state bus.new)) }
+    ensures halts { IfErr result (λ halt. GivesUp g.lanes limit (words_met at (length new.now) W.WIDTH * (word_most kind limit + 1)) halt (B.state bus.old) (B.state bus.new)) }
+    ensures leaves { IfErr result (λ halt. CanProgram W.WIDTH kind g limit at (length new.now) (B.state bus.old) → AllLanes IsSound (B.state bus.old) → LeavesBy g.device at new.now at halt (B.state bus.old) (B.state bus.new)) }
     ensures units { units_of (B.state bus.new) ≡ units_of (B.state bus.old) }
 {
     let first = word_of::<W>(at);
     let last = word_of::<W>(at + new.len() as u32 - 1);
     for u in first..last + 1 {
-        let lanes = program_one::<W, B>(bus, g, u, at, new, limit)?;
+        let lanes = program_one::<W, B>(bus, kind, g, u, at, new, limit)?;
         if lanes.bits != 0 {
             return Ok(Some(Broken { unit: u, lanes }));
         }

@@ -1,5 +1,6 @@
 use Rattle.std.proofs.Common.{◌*◌, ◌+◌, refl, length}
 use Rattle.nor_bus.specs.Driven.{AllLanes}
+use Rattle.nor_poll.specs.Word.{word_most}
 use Rattle.nor_bank.specs.Programs.{CanProgram, LeavesBy, GivesUp, IsSound}
 use Rattle.nor_bank.specs.Ranges.{words_met}
 use Rattle.nor_bank.proofs.OneWord.{if_gave}
@@ -8,7 +9,7 @@ use Rattle.nor_bank.proofs.WordByWord.{of_range, programs_none, programs_more, p
 use Rattle.nor_bank.proofs.programming.program_range.Goals as goal
 
 pub loop-u-init : goal.loop-u-init
-loop-u-init g c = programs_none g.W.BusWord.WIDTH c.args.g c.args.limit c.word_of-first.result c.args.at c.word_of-first.result c.args.new.now (g.B.Bus.state c.args.bus.now) c.word_of-first.ensures refl
+loop-u-init g c = programs_none g.W.BusWord.WIDTH c.args.kind c.args.g c.args.limit c.word_of-first.result c.args.at c.word_of-first.result c.args.new.now (g.B.Bus.state c.args.bus.now) c.word_of-first.ensures refl
 
 pub loop-u-preserved : goal.loop-u-preserved
 loop-u-preserved g c =
@@ -18,7 +19,7 @@ loop-u-preserved g c =
     let after = g.B.Bus.state c.program_one.new.bus in
     let of = of_range c.args.at (length c.args.new.now) w c.word_of-first.result c.word_of-last.result c.loop-u.u (some_byte w g.met.W.BusWord.sized) c.requires.some c.word_of-first.ensures c.word_of-last.ensures
     c.loop-u.auto.u c.loop-u-test.true in
-    programs_more w c.args.g c.args.limit c.loop-u.u c.args.at c.word_of-first.result c.args.new.now old now after of c.loop-u.invariant
+    programs_more w c.args.kind c.args.g c.args.limit c.loop-u.u c.args.at c.word_of-first.result c.args.new.now old now after of c.loop-u.invariant
     c.in_ok-lanes.ensures.counted c.in_ok-lanes.ensures.units c.in_ok-lanes.ensures.programs
 
 pub returns-in_err-lanes-clause-halts : goal.returns-in_err-lanes-clause-halts
@@ -30,8 +31,8 @@ returns-in_err-lanes-clause-halts g c =
     let of = of_range c.args.at (length c.args.new.now) w c.word_of-first.result c.word_of-last.result c.loop-u.u (some_byte w g.met.W.BusWord.sized) c.requires.some c.word_of-first.ensures c.word_of-last.ensures
     c.loop-u.auto.u c.loop-u-test.true in
     let halt = c.in_err-lanes.field-0.0 in
-    if_gave c.from_residual.result halt (λ given. GivesUp c.args.g.lanes c.args.limit (words_met c.args.at (length c.args.new.now) w * (c.args.limit + 6)) given old after) c.from_residual.ensures.1
-    (gives_up_more w c.args.g c.args.limit c.loop-u.u c.args.at c.word_of-first.result c.args.new.now old now after halt of c.loop-u.invariant c.in_err-lanes.ensures.halts)
+    if_gave c.from_residual.result halt (λ given. GivesUp c.args.g.lanes c.args.limit (words_met c.args.at (length c.args.new.now) w * (word_most c.args.kind c.args.limit + 1)) given old after) c.from_residual.ensures.1
+    (gives_up_more w c.args.kind c.args.g c.args.limit c.loop-u.u c.args.at c.word_of-first.result c.args.new.now old now after halt of c.loop-u.invariant c.in_err-lanes.ensures.halts)
 
 pub returns-in_err-lanes-clause-leaves : goal.returns-in_err-lanes-clause-leaves
 returns-in_err-lanes-clause-leaves g c =
@@ -43,9 +44,9 @@ returns-in_err-lanes-clause-leaves g c =
     c.loop-u.auto.u c.loop-u-test.true in
     let halt = c.in_err-lanes.field-0.0 in
     if_gave c.from_residual.result halt
-    (λ given. CanProgram w c.args.g c.args.limit c.args.at (length c.args.new.now) old → AllLanes IsSound old → LeavesBy c.args.g.device c.args.at c.args.new.now c.args.at given old after)
+    (λ given. CanProgram w c.args.kind c.args.g c.args.limit c.args.at (length c.args.new.now) old → AllLanes IsSound old → LeavesBy c.args.g.device c.args.at c.args.new.now c.args.at given old after)
     c.from_residual.ensures.1
-    (λ can sound. leaves_more w c.args.g c.args.limit c.loop-u.u c.args.at c.word_of-first.result (c.args.limit + 6) c.args.new.now old now after halt of c.loop-u.invariant can sound
+    (λ can sound. leaves_more w c.args.kind c.args.g c.args.limit c.loop-u.u c.args.at c.word_of-first.result (word_most c.args.kind c.args.limit + 1) c.args.new.now old now after halt of c.loop-u.invariant can sound
     c.in_err-lanes.ensures.halts c.in_err-lanes.ensures.leaves)
 
 pub returns-then-lanes-ne0-clause-sound : goal.returns-then-lanes-ne0-clause-sound
@@ -55,7 +56,7 @@ returns-then-lanes-ne0-clause-sound g c = λ broken is can sound.
     let now = g.B.Bus.state c.loop-u.bus in
     let of = of_range c.args.at (length c.args.new.now) w c.word_of-first.result c.word_of-last.result c.loop-u.u (some_byte w g.met.W.BusWord.sized) c.requires.some c.word_of-first.ensures c.word_of-last.ensures
     c.loop-u.auto.u c.loop-u-test.true in
-    c.if-lanes-ne0.true (sound_more w c.args.g c.args.limit c.loop-u.u c.args.at c.word_of-first.result c.in_ok-lanes.lanes.bits c.args.new.now old now of c.loop-u.invariant can sound c.in_ok-lanes.ensures.sound)
+    c.if-lanes-ne0.true (sound_more w c.args.kind c.args.g c.args.limit c.loop-u.u c.args.at c.word_of-first.result c.in_ok-lanes.lanes.bits c.args.new.now old now of c.loop-u.invariant can sound c.in_ok-lanes.ensures.sound)
 
 pub returns-then-lanes-ne0-clause-counted : goal.returns-then-lanes-ne0-clause-counted
 returns-then-lanes-ne0-clause-counted g c =
@@ -65,9 +66,9 @@ returns-then-lanes-ne0-clause-counted g c =
     let after = g.B.Bus.state c.program_one.new.bus in
     let of = of_range c.args.at (length c.args.new.now) w c.word_of-first.result c.word_of-last.result c.loop-u.u (some_byte w g.met.W.BusWord.sized) c.requires.some c.word_of-first.ensures c.word_of-last.ensures
     c.loop-u.auto.u c.loop-u-test.true in
-    counted_more w c.args.g c.args.limit c.loop-u.u c.args.at c.word_of-first.result c.args.new.now old now after of c.loop-u.invariant c.in_ok-lanes.ensures.counted
+    counted_more w c.args.kind c.args.g c.args.limit c.loop-u.u c.args.at c.word_of-first.result c.args.new.now old now after of c.loop-u.invariant c.in_ok-lanes.ensures.counted
 
 pub returns-clause-programs : goal.returns-clause-programs
 returns-clause-programs g c = λ is can sound.
-    programs_all g.W.BusWord.WIDTH c.args.g c.args.limit c.loop-u.u c.args.at c.word_of-first.result c.word_of-last.result c.args.new.now (g.B.Bus.state c.args.bus.now) (g.B.Bus.state c.loop-u.bus)
+    programs_all g.W.BusWord.WIDTH c.args.kind c.args.g c.args.limit c.loop-u.u c.args.at c.word_of-first.result c.word_of-last.result c.args.new.now (g.B.Bus.state c.args.bus.now) (g.B.Bus.state c.loop-u.bus)
     (some_byte g.W.BusWord.WIDTH g.met.W.BusWord.sized) c.requires.some c.word_of-last.ensures c.loop-u-test.false c.loop-u.invariant can sound
