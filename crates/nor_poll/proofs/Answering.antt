@@ -130,8 +130,7 @@ idle_says u m a b t shows idle first h =
     let e = idle_next u m b t shows.set idle h in
     let second : b ≡ shown (toggled u m) u = h.answers ∙ ap (λ (x : ChipState). shown x u) e in
     let says = idle_pair u m idle shows.fault shows.mode in
-    let last : seen_fault m.fault (here_in u m) ≡ seen_fault t.fault (here_in u t) = sym (ap (λ (x : ChipState). seen_fault x.fault (in_held x.held x.part (place x.part u))) e) in
-    (
+    let last : seen_fault m.fault (here_in u m) ≡ seen_fault t.fault (here_in u t) = sym (ap (λ (x : ChipState). seen_fault x.fault (in_held x.held x.part (place x.part u))) e) in (
       ap (λ (k : ℕ). pair_says k b) first ∙ (ap (pair_says (shown m u)) second ∙ (says.0 ∙ last)),
       ap (λ (k : ℕ). over_says k b) first ∙ (ap (over_says (shown m u)) second ∙ (says.1 ∙ last)),
       ap (λ (x : ChipState). x.job) e ∙ idle,

@@ -23,9 +23,6 @@ held_status t6 t2 = 0x80 + bit_if 0x40 t6 + bit_if 0x04 t2
 
 -- ---- a chip that runs no job at both reads
 
-
-
-
 same_first : (c : Bool) (x y : Seen) → c ≡ true → (if c then x else y) ≡ x
 same_first true x y e = refl
 same_first false x y e = cc

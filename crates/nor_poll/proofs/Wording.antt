@@ -216,8 +216,7 @@ word_halts bytes how kind width u limit first g word old mid after Off fits same
 )
 word_halts bytes how kind width u limit first g word old mid after (Stuck n) fits same went begins answers units h =
     let polls = working_reads how * limit in
-    let reads = h.1 in
-    (
+    let reads = h.1 in (
       h.0,
       went_then first first polls polls (word_stuck kind limit) (word_stuck kind limit) old mid after (omega (arith, same)) (omega (arith, same)) went (went_by polls mid after reads),
       λ own within k below.
@@ -227,5 +226,5 @@ word_halts bytes how kind width u limit first g word old mid after (Stuck n) fit
           let below = subst (λ (m : ℕ). n < m) (sym own.count) h.0 in
           stuck_word kind u (lane_of (wide (lane old n)) word n) (polls - working_reads how) limit (lane old n) (lane mid n) (begins own within n below) (enough_polls how limit)
           (λ takes some.
-              h.2 (own_kept width g old mid went.kept own) (subst (λ (m : ℕ). u < m) (sym units) within) some (answers own within n below takes)),
+          h.2 (own_kept width g old mid went.kept own) (subst (λ (m : ℕ). u < m) (sym units) within) some (answers own within n below takes)),
     )

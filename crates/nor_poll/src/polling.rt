@@ -11,7 +11,6 @@ use crate::data::data_poll;
 use crate::status::status_poll;
 use crate::toggle::toggle_poll;
 use crate::{Seen, Watch};
-
 use nor_bus::{Bus, Off};
 use nor_cell::Geometry;
 use nor_word::BusWord;

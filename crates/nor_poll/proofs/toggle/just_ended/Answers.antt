@@ -22,7 +22,7 @@ loop-lane-preserved g c =
           let told : c.pair_of.result ≡ pair_says (lane_of d one k) (lane_of d two k) =
           c.pair_of.ensures ∙ (ap (λ (n : ℕ). pair_says n c.lane_get-two.result) x ∙ ap (pair_says (lane_of d one k)) y) in
           elim c.match-pair_of.branch [
-            in-Working w ↦ (k, omega arith, sym told ∙ w.in-Working.is)
+            | in-Working w ↦ (k, omega arith, sym told ∙ w.in-Working.is)
             | in_default w ↦ let s = c.loop-lane.invariant.some (sym w.ended-is ∙ ended) in let below = s.1 in (s.0, omega (arith, below), s.2)
           ];
     }

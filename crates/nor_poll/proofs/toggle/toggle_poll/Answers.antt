@@ -51,7 +51,7 @@ returns-then-not-just_ended-clause-short g c = λ k works.
 pub returns-then-not-just_ended-clause-late : goal.returns-then-not-just_ended-clause-late
 returns-then-not-just_ended-clause-late g c = λ own within shows. inl (
     read_then 1 1 1 1 2 2 (g.B.Bus.state c.args.bus.now) (g.B.Bus.state c.look.new.bus) (g.B.Bus.state c.look-2.new.bus) (omega arith) (omega arith) c.in_ok-first.ensures.went c.in_ok-second.ensures.went
-)
+    )
 
 pub returns-in_err-third-clause-lost : goal.returns-in_err-third-clause-lost
 returns-in_err-third-clause-lost g c =

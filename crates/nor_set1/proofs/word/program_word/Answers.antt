@@ -47,8 +47,8 @@ returns-clause-done g c = λ own within k below.
     let begins = c.in_ok-begin_word.ensures.begins within k below in
     word_done Intel c.args.at v c.broken_lanes-broken.result.bits k (lane old k) (lane mid k) (lane last k) (lane new k) (seen_at c.in_ok-watch.watch.lanes k) begins
     (λ takes.
-        c.in_ok-watch.ensures.ready (own_kept g.W.BusWord.WIDTH c.args.g old mid c.in_ok-begin_word.ensures.went.kept own) (subst (λ (n : ℕ). c.args.at < n) (sym c.begin_word.ensures.units) within) k there
-        (shows_begun c.args.at v (lane old k) (lane mid k) begins takes))
+    c.in_ok-watch.ensures.ready (own_kept g.W.BusWord.WIDTH c.args.g old mid c.in_ok-begin_word.ensures.went.kept own) (subst (λ (n : ℕ). c.args.at < n) (sym c.begin_word.ensures.units) within) k there
+    (shows_begun c.args.at v (lane old k) (lane mid k) begins takes))
     (c.broken_lanes-broken.ensures.lanes k (omega (arith, few, below)))
     (c.in_ok-end_program.ensures.lanes k (moved mid last k c.in_ok-watch.ensures.went.went.kept.count there))
 
@@ -62,8 +62,8 @@ returns-clause-set g c = λ own within k below.
     let begins = c.in_ok-begin_word.ensures.begins within k below in
     tells Intel c.args.at v (lane old k) (lane mid k) (lane last k) (seen_at c.in_ok-watch.watch.lanes k) _ begins
     (λ takes.
-        c.in_ok-watch.ensures.ready (own_kept g.W.BusWord.WIDTH c.args.g old mid c.in_ok-begin_word.ensures.went.kept own) (subst (λ (n : ℕ). c.args.at < n) (sym c.begin_word.ensures.units) within) k
-        (moved old mid k c.in_ok-begin_word.ensures.went.kept.count below) (shows_begun c.args.at v (lane old k) (lane mid k) begins takes))
+    c.in_ok-watch.ensures.ready (own_kept g.W.BusWord.WIDTH c.args.g old mid c.in_ok-begin_word.ensures.went.kept own) (subst (λ (n : ℕ). c.args.at < n) (sym c.begin_word.ensures.units) within) k
+    (moved old mid k c.in_ok-begin_word.ensures.went.kept.count below) (shows_begun c.args.at v (lane old k) (lane mid k) begins takes))
     (c.broken_lanes-broken.ensures.lanes k (omega (arith, few, below)))
 
 pub returns-clause-past : goal.returns-clause-past
@@ -88,8 +88,8 @@ returns-clause-prompt g c = λ own within most ends.
     let polls =
     c.in_ok-watch.ensures.prompt (own_kept g.W.BusWord.WIDTH c.args.g old mid c.in_ok-begin_word.ensures.went.kept own) (subst (λ (n : ℕ). c.args.at < n) (sym c.begin_word.ensures.units) within)
     (λ k there.
-        let below = subst (λ (m : ℕ). k < m) count there in
-        shows_begun c.args.at (lane_of (wide (lane old k)) word k) (lane old k) (lane mid k) (begins k below) (ends k below).takes)
+    let below = subst (λ (m : ℕ). k < m) count there in
+    shows_begun c.args.at (lane_of (wide (lane old k)) word k) (lane old k) (lane mid k) (begins k below) (ends k below).takes)
     most (all_work_for Intel c.args.at most word old mid count begins ends) in
     counted_word 3 1 (most + 1) (most + 1) (1 + min bits 1) 5 (most + 5 + min bits 1) old mid last new (omega arith) (omega arith) refl c.in_ok-begin_word.ensures.went polls c.in_ok-end_program.ensures.went
 
@@ -109,7 +109,7 @@ returns-in_err-end_program-clause-halts g c =
           let begins = c.in_ok-begin_word.ensures.begins within k below in
           loses_ended Intel c.args.at v (lane old k) (lane mid k) (lane last k) (lane new k) (seen_at c.in_ok-watch.watch.lanes k) begins
           (λ takes.
-              c.in_ok-watch.ensures.ready (own_kept g.W.BusWord.WIDTH c.args.g old mid c.in_ok-begin_word.ensures.went.kept own) (subst (λ (n : ℕ). c.args.at < n) (sym c.begin_word.ensures.units) within) k
-              there (shows_begun c.args.at v (lane old k) (lane mid k) begins takes))
+          c.in_ok-watch.ensures.ready (own_kept g.W.BusWord.WIDTH c.args.g old mid c.in_ok-begin_word.ensures.went.kept own) (subst (λ (n : ℕ). c.args.at < n) (sym c.begin_word.ensures.units) within) k
+          there (shows_begun c.args.at v (lane old k) (lane mid k) begins takes))
           (c.in_err-end_program.ensures.loses k (moved mid last k c.in_ok-watch.ensures.went.went.kept.count there)),
     )
