@@ -143,7 +143,14 @@ impl<W: BusWord, B: Bus<W>> Bank<W, B> {
         ensures leaves { IfErr result (λ halt. LeavesRange W.WIDTH self.old at from.now halt self.new) }
     {
         let limit = self.found.query.limit(Work::Word);
-        program_range::<W, B>(&mut self.bus, self.found.query.set, self.found.geometry, at, from, limit)
+        program_range::<W, B>(
+            &mut self.bus,
+            self.found.query.set,
+            self.found.geometry,
+            at,
+            from,
+            limit,
+        )
     }
 
     /// Programs the bytes of the bank from `at` on, one bus word after another in ascending order.

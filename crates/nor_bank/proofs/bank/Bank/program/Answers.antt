@@ -93,6 +93,16 @@ returns-in-Ok-Some-clause-lasts g c closed built a stands unlocked =
     absurd (broken_never now a w c.args.at c.args.from.now stands closed built is.wide unlocked is.none is.some
     (c.in-Ok-Some.ensures.sound c.in-Ok-Some.broken (ap Ok c.in-Ok-Some.field-0-is)))
 
+pub returns-in-Ok-None-clause-asks : goal.returns-in-Ok-None-clause-asks
+returns-in-Ok-None-clause-asks g c =
+    let now = c.args.self.now in
+    asks_counted now.found.query.set (words_met c.args.at (length c.args.from.now) g.W.BusWord.WIDTH) (word_limit now) 1 now.bus c.program_quiet.new.self.bus c.in-Ok-None.ensures.counted
+
+pub returns-in-Ok-Some-clause-asks : goal.returns-in-Ok-Some-clause-asks
+returns-in-Ok-Some-clause-asks g c =
+    let now = c.args.self.now in
+    asks_counted now.found.query.set (words_met c.args.at (length c.args.from.now) g.W.BusWord.WIDTH) (word_limit now) 1 now.bus c.program_quiet.new.self.bus c.in-Ok-Some.ensures.counted
+
 -- ---- a loss of power
 
 pub returns-in-Err-Off-clause-makes : goal.returns-in-Err-Off-clause-makes
