@@ -1,5 +1,5 @@
 //! Banks whose replies are held, call by call, against the plain array that they stand for.
-ghost use Rattle.std.specs.Prelude.{IsTrue, length};
+ghost use Rattle.std.specs.Prelude.{IsTrue, IfOk, length};
 ghost use Rattle.nor_array.specs.Array.{lie_within};
 
 use crate::chips::{Setup, make_bank};
@@ -39,6 +39,20 @@ pub fn start<W: BusWord>(
 ) -> Result<Bank<W, SimBank<W, Intel>>, Fail> {
     let bus = make_bank::<W>(rt, alloc, setup)?;
     start_on::<W, SimBank<W, Intel>>(rt, bus)
+}
+
+/// A weak place of a bank of so many bytes, as an array has it.
+pub fn weak_spans(
+    rt: &impl Abort,
+    alloc: Global,
+    size: usize,
+    weak: Span,
+) -> Result<Vec<Span>, Fail>
+    ensures { IfOk result (λ spans. IsTrue (lie_within size spans.items)) }
+{
+    assert!(rt; u64::from(weak.from) + u64::from(weak.len) <= size as u64);
+    let spans = vec![in alloc; weak]?;
+    Ok(spans)
 }
 
 /// The array that a bank stands for, and the caller of the next call.

@@ -17,6 +17,8 @@ mod chips;
 #[cfg(test)]
 mod cuts;
 #[cfg(test)]
+mod halts;
+#[cfg(test)]
 mod held;
 #[cfg(test)]
 mod ranges;
@@ -24,6 +26,8 @@ mod ranges;
 mod refusals;
 #[cfg(test)]
 mod replies;
+#[cfg(test)]
+mod weak;
 #[cfg(test)]
 mod wirings;
 #[cfg(test)]

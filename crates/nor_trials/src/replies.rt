@@ -1,13 +1,12 @@
 //! What a bank of set 0001 replies to one list of calls, by hand.
-use crate::chips::{Setup, WEAK_PLACE};
+use crate::chips::Setup;
 use crate::held::{Held, start};
 use nor_array::Reply;
 use nor_bank::Bank;
 use nor_bus::{Bus, SimBank};
-use nor_cell::Device::{self, X8, X16, X16Byte};
-use nor_cell::{Geometry, Span, make_geometry};
+use nor_cell::Device::X16;
+use nor_cell::Geometry;
 use nor_intel::Intel;
-use nor_word::BusWord;
 use std::alloc::Global;
 use std::process::Abort;
 use std::test::Fail;
