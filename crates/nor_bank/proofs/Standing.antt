@@ -1,38 +1,34 @@
 -- What a bank with nothing under erase stands for, call after call.
-use Rattle.std.proofs.Common.{◌≡◌, ◌≢◌, ◌<◌, ◌≤◌, ◌+◌, ◌-◌, ◌*◌, ◌/◌, ◌%◌, ◌⊎◌, inl, inr, ℕ, List, [], ◌∷◌, ◌++◌, length, take, drop, slice_index, refl, sym, ◌∙◌, ap, subst, arith, Bool, true, false, Option, Some, None}
+use Rattle.std.proofs.Common.{◌≡◌, ◌<◌, inl, inr, ℕ, List, length, slice_index, refl, sym, ◌∙◌, ap, subst, arith, true, false, Option, Some, None}
 use Rattle.nor_cell.specs.Bits.{AreBytes, unit_len}
-use Rattle.nor_cell.specs.Chip.{ChipState, Part, Mode, Array, Fault, NoFault, Held, NotHeld, Job, Idle}
-use Rattle.nor_cell.specs.Power.{Cuts, is_erasing_at, programs_at, erases_at, holds_at}
+use Rattle.nor_cell.specs.Chip.{ChipState, Mode, Array, Fault, NoFault, Held, NotHeld, Job, Idle}
+use Rattle.nor_cell.specs.Power.{is_erasing_at, programs_at, erases_at, holds_at}
 use Rattle.nor_cell.specs.Wiring.{lane_at, place_at}
 use Rattle.nor_cell.specs.declared.device.Device.{Device}
 use Rattle.nor_cell.specs.declared.device.Set.{Set}
 use Rattle.nor_cell.specs.declared.device.Set.TheVariants.{Intel, Amd}
 use Rattle.nor_lane.proofs.Places.{lane_at_below}
 use Rattle.nor_bus.specs.Bus.{BusState, lane, lanes_of, chip_at, bank_byte, IsBank}
-use Rattle.nor_bus.specs.Cycles.{BusFails}
 use Rattle.nor_bus.specs.Driven.{AllLanes, EachLane, Nearer}
 use Rattle.nor_bus.specs.declared.bus.Armed.{Armed}
 use Rattle.nor_bus.proofs.Driving.{some_lane}
 use Rattle.nor_poll.specs.Losing.{Darkens}
 use Rattle.nor_probe.specs.declared.probing.Found.{Found}
-use Rattle.nor_array.specs.Array.{ArrayState, Constants, put, open_span, erase_span}
-use Rattle.nor_array.specs.After.{after_halted, halted_bytes, closed, power_of}
+use Rattle.nor_array.specs.Array.{ArrayState}
+use Rattle.nor_array.specs.After.{closed, power_of}
 use Rattle.nor_array.specs.Admits.{IsArmed}
 use Rattle.nor_array.specs.declared.entry.Halted.{Halted as HaltCause}
 use Rattle.nor_array.specs.declared.entry.Halted.TheVariants.{Off, Stuck}
-use Rattle.nor_array.specs.declared.entry.Op.{Op}
 use Rattle.nor_array.specs.declared.state.ArmedCut.{ArmedCut}
 use Rattle.nor_array.specs.declared.state.OpenErase.{OpenErase}
-use Rattle.nor_array.specs.declared.state.Power.{Power}
-use Rattle.nor_array.specs.declared.state.Power.TheVariants.{On, Off as NoPower, Stuck as StuckAt}
 use Rattle.nor_bank.specs.Programs.{Lasts}
 use Rattle.nor_bank.specs.Ranges.{IsReadable}
-use Rattle.nor_bank.specs.Stands.{Stands, IsOn, PowerIs, EraseIs, CutIs, IsQuiet, Waits, IsKnown, constants_of, is_under, takes_commands, kept_power, under_of}
+use Rattle.nor_bank.specs.Stands.{Stands, IsOn, PowerIs, EraseIs, CutIs, IsQuiet, Waits, IsKnown, constants_of, is_under, takes_commands, under_of}
 use Rattle.nor_bank.specs.State.{BankState, size_of, byte_of}
 use Rattle.nor_bank.specs.Work.{with_bus, Stays}
 use Rattle.nor_bank.specs.declared.kept.Erasing.{Erasing}
-use Rattle.nor_bank.proofs.Known.{known_own, known_parts}
-use Rattle.nor_bank.proofs.Lasting.{StaysKnown, known_lasts, constants_last, of_lasts}
+use Rattle.nor_bank.proofs.Known.{known_parts}
+use Rattle.nor_bank.proofs.Lasting.{known_lasts, constants_last, of_lasts}
 
 -- ---- chips that last
 
@@ -59,15 +55,17 @@ dark_quiet s t idle free small (inr cuts) =
     let held_off : holds_at s.held s.part.blocks p ≡ false = ap (λ (h : Held). holds_at h s.part.blocks p) free in
     let calm : is_erasing_at s p ≡ false = cc in
     let quiet : programs_at s.job p ≡ false = ap (λ (j : Job). programs_at j p) idle in
-    cuts.kept p calm quiet in
-    (record {
-      part = ap (λ (x : ChipState). x.part) rest;
-      locks = ap (λ (x : ChipState). x.locks) rest;
-      suspends = ap (λ (x : ChipState). x.suspends) rest;
-      erases = ap (λ (x : ChipState). x.erases) rest;
-      size = cuts.size;
-      bytes = λ p. subst (λ (n : ℕ). n < 256) (sym (still p)) (small p);
-    }, still)
+    cuts.kept p calm quiet in (
+      record {
+        part = ap (λ (x : ChipState). x.part) rest;
+        locks = ap (λ (x : ChipState). x.locks) rest;
+        suspends = ap (λ (x : ChipState). x.suspends) rest;
+        erases = ap (λ (x : ChipState). x.erases) rest;
+        size = cuts.size;
+        bytes = λ p. subst (λ (n : ℕ). n < 256) (sym (still p)) (small p);
+      },
+      still,
+    )
 
 pub lasts_dark : (old new : BusState) → AllLanes IsReadable old → EachLane Darkens old new → EachLane Lasts old new
 lasts_dark old new shows dark c below =

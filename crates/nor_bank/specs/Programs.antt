@@ -1,7 +1,7 @@
 -- Programming a range of a bank's bytes, bus word by bus word.
-use Rattle.std.specs.Prelude.{◌≡◌, ◌≢◌, ◌<◌, ◌≤◌, ◌+◌, ◌-◌, ◌*◌, ℕ, List, [], length, slice_index, bit_and, Bool, true, false, ◌&&◌, nat_le, nat_lt, if◌then◌else◌}
-use Rattle.nor_cell.specs.Bits.{IsBetween, AreBytes, unit_len}
-use Rattle.nor_cell.specs.Chip.{ChipState, NotHeld, has_blocks, block_of, is_locked}
+use Rattle.std.specs.Prelude.{◌≡◌, ◌≢◌, ◌<◌, ◌≤◌, ◌+◌, ◌-◌, ◌*◌, ℕ, List, [], length, slice_index, bit_and, true, false, ◌&&◌, nat_le, nat_lt, if◌then◌else◌}
+use Rattle.nor_cell.specs.Bits.{IsBetween, AreBytes}
+use Rattle.nor_cell.specs.Chip.{ChipState, has_blocks, block_of, is_locked}
 use Rattle.nor_cell.specs.declared.device.Device.{Device}
 use Rattle.nor_cell.specs.declared.device.Set.TheVariants.{Intel}
 use Rattle.nor_cell.specs.declared.geometry.Geometry.{Geometry}

@@ -1,8 +1,8 @@
 -- A bank stands for a plain array.
-use Rattle.std.specs.Prelude.{◌≡◌, ◌<◌, ◌≤◌, ◌+◌, ℕ, List, [], ◌∷◌, ◌++◌, length, map, slice_index, Bool, true, false, ◌&&◌, Option, Some, None}
+use Rattle.std.specs.Prelude.{◌≡◌, ◌<◌, ◌≤◌, ◌+◌, ℕ, List, [], ◌∷◌, ◌++◌, length, map, slice_index, Bool, true, false, Option, Some, None}
 use Rattle.std.specs.Option.{option_map}
 use Rattle.nor_cell.specs.Bits.{unit_len}
-use Rattle.nor_cell.specs.Chip.{ChipState, Mode, Array, Query, Ident, Status, Locks, Rest, NotHeld, Fault, NoFault, TimeFault, AbortFault, block, is_within}
+use Rattle.nor_cell.specs.Chip.{ChipState, Mode, Query, Locks, Rest, NotHeld, Fault, AbortFault, block, is_within}
 use Rattle.nor_cell.specs.Resting.{IsShown, IsResting}
 use Rattle.nor_cell.specs.Wiring.{bank_place}
 use Rattle.nor_cell.specs.declared.device.Set.{Set}

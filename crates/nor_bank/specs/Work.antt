@@ -1,5 +1,5 @@
 -- What a call asks of the bus, and what it leaves as it was.
-use Rattle.std.specs.Prelude.{◌≡◌, ◌≢◌, ◌<◌, ◌≤◌, ◌+◌, ℕ, List, [], ◌∷◌, length, false, nat_lt, Option, Some, None}
+use Rattle.std.specs.Prelude.{◌≡◌, ◌≢◌, ◌<◌, ◌≤◌, ◌+◌, ℕ, List, [], ◌∷◌, length, nat_lt, Option, Some, None}
 use Rattle.std.specs.Option.{option_or, option_map}
 use Rattle.nor_bus.specs.Bus.{BusState}
 use Rattle.nor_cell.specs.declared.device.Set.TheVariants.{Intel}
@@ -9,7 +9,7 @@ use Rattle.nor_array.specs.Refusals.{when, first_some}
 use Rattle.nor_array.specs.declared.entry.Halted.{Halted as HaltCause}
 use Rattle.nor_array.specs.declared.entry.Halted.TheVariants.{Off, Stuck}
 use Rattle.nor_array.specs.declared.entry.Reply.{Reply}
-use Rattle.nor_array.specs.declared.entry.Reply.TheVariants.{Done, Opened, Erased, Bit, OutOfRange, TooLong, Busy, Occupied, Locked, NoLocks, Nothing, NotYet, Failed, Halted}
+use Rattle.nor_array.specs.declared.entry.Reply.TheVariants.{OutOfRange, TooLong, Halted}
 use Rattle.nor_cell.specs.declared.device.Work.TheVariants.{Word}
 use Rattle.nor_query.specs.Derived.{limit_of}
 use Rattle.nor_poll.specs.declared.lanes.Halt.{Halt}

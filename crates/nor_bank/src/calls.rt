@@ -1,4 +1,4 @@
-ghost use Rattle.std.specs.Prelude.{◌≡◌, ◌≢◌, ◌<◌, ◌≤◌, ◌+◌, ◌-◌, ◌*◌, ◌/◌, ◌^◌, ℕ, length, [], Option, Some, None, IfSome, IfErr, OnOk, OnErr, Ok};
+ghost use Rattle.std.specs.Prelude.{◌≡◌, ◌≢◌, ◌<◌, ◌≤◌, ◌+◌, ◌-◌, ◌*◌, ◌/◌, ◌^◌, ℕ, length, [], Option, Some, None, IfSome, IfErr, OnOk, OnErr, Ok, false};
 ghost use Rattle.nor_bus.specs.Bus.{more};
 ghost use Rattle.nor_bus.specs.Driven.{EachLane, Went, Lost};
 ghost use Rattle.nor_cell.specs.declared.device.Device.{Device};
@@ -70,6 +70,15 @@ impl<W: BusWord, B: Bus<W>> Bank<W, B> {
         Reply::Halted(cause)
     }
 
+    // Power is lost: the number of the armed cut is kept.
+    fn lose(&mut self) -> Reply
+        requires dark { (self.old).bus.power ≡ false }
+        ensures reply { result ≡ HaltedReply (NoPower (self.old).after) }
+        ensures kept { self.new ≡ record self.old { halted = Some (NoPower (self.old).after) } }
+    {
+        self.halt(Halted::Off { after: self.after })
+    }
+
     // Reads with nothing under erase.
     fn read_quiet(&mut self, at: u32, into: &mut [u8]) -> Result<(), Off>
         requires some { 0 < length into.old }
@@ -116,7 +125,7 @@ impl<W: BusWord, B: Bus<W>> Bank<W, B> {
         }
         match self.read_quiet(at, into) {
             Ok(_) => Reply::Done,
-            Err(_) => self.halt(Halted::Off { after: self.after }),
+            Err(_) => self.lose(),
         }
     }
 
@@ -174,7 +183,7 @@ impl<W: BusWord, B: Bus<W>> Bank<W, B> {
         match self.program_quiet(at, from) {
             Ok(None) => Reply::Done,
             Ok(Some(broken)) => failed::<W>(at, from.len(), broken),
-            Err(Halt::Off) => self.halt(Halted::Off { after: self.after }),
+            Err(Halt::Off) => self.lose(),
             Err(Halt::Stuck { lane }) => self.halt(Halted::Stuck { lane }),
         }
     }

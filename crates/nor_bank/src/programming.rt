@@ -40,7 +40,14 @@ fn pad_word<W: BusWord>(from: u64, at: u32, new: &[u8]) -> W
 }
 
 // Programs the part of a range that lies in bus word `u`, if that changes it.
-fn program_one<W: BusWord, B: Bus<W>>(bus: &mut B, g: Geometry, u: u32, at: u32, new: &[u8], limit: u32) -> Result<LaneSet, Halt>
+fn program_one<W: BusWord, B: Bus<W>>(
+    bus: &mut B,
+    g: Geometry,
+    u: u32,
+    at: u32,
+    new: &[u8],
+    limit: u32,
+) -> Result<LaneSet, Halt>
     requires wiring { IsTrue (is_wiring W.WIDTH g.lanes g.device) }
     ensures programs { OnOk result (CanProgram W.WIDTH g limit at (length new.now) (B.state bus.old) → MeetsWord W.WIDTH u at (length new.now) → AllLanes IsSound (B.state bus.old) → ProgramsPart g.device at new.now (u * W.WIDTH) (u * W.WIDTH + W.WIDTH) (B.state bus.old) (B.state bus.new)) }
     ensures sound { IfOk result (λ set. CanProgram W.WIDTH g limit at (length new.now) (B.state bus.old) → MeetsWord W.WIDTH u at (length new.now) → AllLanes IsSound (B.state bus.old) → set.bits ≡ 0) }
@@ -60,7 +67,13 @@ fn program_one<W: BusWord, B: Bus<W>>(bus: &mut B, g: Geometry, u: u32, at: u32,
 /// Programs a range that isn't empty, bus word by bus word in ascending order, up to the first in which
 /// a lane breaks off. It makes one cycle for each bus word, and at most `limit + 5` more for one that
 /// changes.
-pub(crate) fn program_range<W: BusWord, B: Bus<W>>(bus: &mut B, g: Geometry, at: u32, new: &[u8], limit: u32) -> Result<Option<Broken>, Halt>
+pub(crate) fn program_range<W: BusWord, B: Bus<W>>(
+    bus: &mut B,
+    g: Geometry,
+    at: u32,
+    new: &[u8],
+    limit: u32,
+) -> Result<Option<Broken>, Halt>
     requires wiring { IsTrue (is_wiring W.WIDTH g.lanes g.device) }
     requires some { 0 < length new.now }
     requires few { at + length new.now < 2 ^ 32 }

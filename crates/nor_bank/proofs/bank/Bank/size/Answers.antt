@@ -1,1 +1,0 @@
-use Rattle.nor_bank.proofs.Served.{read_off}
