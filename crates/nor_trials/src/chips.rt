@@ -1,4 +1,4 @@
-//! Banks of chips of one block, made of their cells, with nothing locked.
+//! Banks of chips of eight blocks, made of their cells, with nothing locked.
 ghost use Rattle.std.specs.Prelude.{◌≡◌, ◌<◌, ◌≤◌, IsTrue, IfOk, length};
 ghost use Rattle.std.specs.List.{All};
 ghost use Rattle.nor_cell.specs.Ranges.{are_blocks, is_ascending_below, begin_units};
@@ -13,16 +13,18 @@ use std::alloc::{AllocError, Global};
 use std::process::Abort;
 use std::test::Fail;
 
-const CHIP_SIZE: usize = 4096;
+const CHIP_SIZE: usize = 8192;
+
+const BLOCK: u32 = 1024;
 
 /// The place at which a weak chip breaks off.
 pub const WEAK_PLACE: u32 = 4;
 
-// A query table from 0x10 on: one block of 4,096 bytes, no buffer, no suspend, no locks. A word
-// takes at most 2^(4 + 2) reads.
+// A query table from 0x10 on: eight blocks of 1 KiB, no buffer, no suspend, no locks. A word takes at
+// most 2^(4 + 2) reads.
 const TABLE: [u8; 43] = [
     0x51, 0x52, 0x59, 0x01, 0x00, 0x31, 0x00, 0x00, 0x00, 0x00, 0x00, 0x27, 0x36, 0x00, 0x00, 0x04,
-    0x06, 0x0a, 0x00, 0x02, 0x02, 0x02, 0x00, 0x0c, 0x01, 0x00, 0x00, 0x00, 0x01, 0x00, 0x00, 0x10,
+    0x06, 0x0a, 0x00, 0x02, 0x02, 0x02, 0x00, 0x0d, 0x01, 0x00, 0x00, 0x00, 0x01, 0x07, 0x00, 0x04,
     0x00, 0x50, 0x52, 0x49, 0x31, 0x31, 0x00, 0x00, 0x00, 0x00, 0x00,
 ];
 
@@ -42,7 +44,7 @@ fn weak_places(
     device: Device,
     is_weak: bool,
 ) -> Result<Vec<u32>, AllocError>
-    ensures ascending { IfOk result (λ v. IsTrue (is_ascending_below 4096 v.items)) }
+    ensures ascending { IfOk result (λ v. IsTrue (is_ascending_below 8192 v.items)) }
     ensures units { IfOk result (λ v. IsTrue (begin_units device v.items)) }
     ensures few { IfOk result (λ v. length v.items ≤ 256) }
 {
@@ -54,10 +56,25 @@ fn weak_places(
     Ok(places)
 }
 
-fn whole_chip(alloc: Global) -> Result<Vec<Span>, AllocError>
-    ensures { IfOk result (λ v. IsTrue (are_blocks 4096 v.items)) }
+fn block(from: u32) -> Span
+    ensures { result ≡ record { from = from; len = 1024 } }
 {
-    let blocks = vec![in alloc; Span { from: 0, len: 4096 }]?;
+    Span { from, len: BLOCK }
+}
+
+fn eight_blocks(alloc: Global) -> Result<Vec<Span>, AllocError>
+    ensures { IfOk result (λ v. IsTrue (are_blocks 8192 v.items)) }
+{
+    let blocks = vec![in alloc;
+        block(0),
+        block(0x400),
+        block(0x800),
+        block(0xC00),
+        block(0x1000),
+        block(0x1400),
+        block(0x1800),
+        block(0x1C00),
+    ]?;
     Ok(blocks)
 }
 
@@ -82,7 +99,7 @@ fn make_chip(rt: &impl Abort, alloc: Global, setup: Setup, lane: u8) -> Result<I
             pace_suspend: 0,
             suspends: 0,
             erases: 0,
-            blocks: whole_chip(alloc)?,
+            blocks: eight_blocks(alloc)?,
         },
     )?;
     Ok(Intel::new(cells))

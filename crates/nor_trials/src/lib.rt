@@ -17,7 +17,17 @@ mod chips;
 #[cfg(test)]
 mod cuts;
 #[cfg(test)]
+mod halts;
+#[cfg(test)]
+mod held;
+#[cfg(test)]
+mod ranges;
+#[cfg(test)]
 mod refusals;
+#[cfg(test)]
+mod replies;
+#[cfg(test)]
+mod weak;
 #[cfg(test)]
 mod wirings;
 #[cfg(test)]
