@@ -8,6 +8,7 @@ pub mod Lasting
 pub mod OneWord
 pub mod Padding
 pub mod Programmed
+pub mod Quiet
 pub mod Ranging
 pub mod Refusing
 pub mod Served

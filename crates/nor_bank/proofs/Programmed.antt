@@ -264,7 +264,7 @@ changing a at new p begins ends apart = grind (arith, nat_tests, apart)
 
 -- ---- halts
 
-left_by : (b new : BankState) (bus : BusState) (at : ℕ) (from : List ℕ) (cause : HaltCause) → b.halted ≡ None → b.erase ≡ None → new ≡ record b { bus = bus; halted = Some cause }
+left_by : (b new : BankState) (bus : BusState) (at : ℕ) (from : List ℕ) (cause : HaltCause) → b.halted ≡ None → b.erase ≡ None → new ≡ record b { bus = bus; halted = Some cause; erase = None }
     → left_by_halt b.halted b.erase (Program at from) new ≡ bank_bytes b.found.geometry.device bus.lanes at (length from)
 left_by b new bus at from cause running closed same =
     halt_bytes b new (Program at from) running closed ∙ ap (λ (x : BankState). bytes_of x at (length from)) same
@@ -280,11 +280,11 @@ halt_leaves a at from bytes free unlocked between =
 
 -- A program that is halted for the first time.
 program_halts : (b new : BankState) (bus : BusState) (a : ArrayState) (caller at : ℕ) (from : List ℕ) (cause : HaltCause) → Stands b a → b.erase ≡ None
-    → first_locked a (Program at from) ≡ None → None ≡ refusal_now b at (length from) → 0 < length from → new ≡ record b { bus = bus; halted = Some cause }
+    → first_locked a (Program at from) ≡ None → None ≡ refusal_now b at (length from) → 0 < length from → new ≡ record b { bus = bus; halted = Some cause; erase = None }
     → lanes_of bus ≡ lanes_of b.bus → Leaves b.found.geometry.device at from b.bus bus
     → ((bytes : List ℕ) → HaltLeaves (Program at from) a bytes → AsksChips (Halted cause) (Program at from) a bytes)
     → Agrees (facts_of b) a (entry_of b new caller (Program at from) (Halted cause) [])
-    → PowerIs (Some cause) (record b { bus = bus; halted = Some cause }) a
+    → PowerIs (Some cause) (record b { bus = bus; halted = Some cause; erase = None }) a
     → MakesEntry b new (entry_of b new caller (Program at from) (Halted cause) []) a
 program_halts b new bus a caller at from cause stands closed unlocked none some same count leaves asks agrees now =
     let way = proceeds b at (length from) (sym none) in
@@ -304,13 +304,13 @@ program_halts b new bus a caller at from cause stands closed unlocked none some 
           (subst (λ (xs : List ℕ). AsksChips (Halted cause) op a xs) (sym bytes) (asks left (halt_leaves a at from left free unlocked between))));
       agrees = agrees;
       stands = subst (λ (v : BankState). Stands v (after a e)) (sym same)
-          (subst (λ (x : ArrayState). Stands (record b { bus = bus; halted = Some cause }) x) (sym array)
+          (subst (λ (x : ArrayState). Stands (record b { bus = bus; halted = Some cause; erase = None }) x) (sym array)
           (stands_halted b bus a (put a.bytes at left) cause stands closed count leaves.lasts
           (left_put b bus a at from way.within stands on closed leaves count) (left_each b bus a at from way.within stands on closed leaves count) now));
     }
 
 pub program_off : (b new : BankState) (bus : BusState) (a : ArrayState) (width caller at most : ℕ) (from : List ℕ) → Stands b a → b.erase ≡ None → IsBuilt b → word_bytes b.found ≡ width
-    → first_locked a (Program at from) ≡ None → None ≡ refusal_now b at (length from) → 0 < length from → new ≡ record b { bus = bus; halted = Some (Off b.after) }
+    → first_locked a (Program at from) ≡ None → None ≡ refusal_now b at (length from) → 0 < length from → new ≡ record b { bus = bus; halted = Some (Off b.after); erase = None }
     → LeavesRange width b at from OffHalt (with_bus b bus) → Lost most b.bus bus
     → MakesEntry b new (entry_of b new caller (Program at from) (Halted (Off b.after)) []) a
 program_off b new bus a width caller at most from stands closed built wide unlocked none some same gives lost =
@@ -318,10 +318,10 @@ program_off b new bus a width caller at most from stands closed built wide unloc
     let on = is_on_now b a stands way.running in
     let leaves = gives (can_program b a width at from stands on closed built wide unlocked some way.within) built in
     let armed = is_armed b a bus most on lost in
-    program_halts b new bus a caller at from (Off b.after) stands closed unlocked none some same lost.kept.count leaves (λ bytes left. (armed, left)) tt (lost.power, armed, closed)
+    program_halts b new bus a caller at from (Off b.after) stands closed unlocked none some same lost.kept.count leaves (λ bytes left. (armed, left)) tt (lost.power, armed, refl)
 
 pub program_stuck : (b new : BankState) (bus : BusState) (a : ArrayState) (width caller at least most k : ℕ) (from : List ℕ) → Stands b a → b.erase ≡ None → IsBuilt b → word_bytes b.found ≡ width
-    → first_locked a (Program at from) ≡ None → None ≡ refusal_now b at (length from) → 0 < length from → new ≡ record b { bus = bus; halted = Some (Stuck k) }
+    → first_locked a (Program at from) ≡ None → None ≡ refusal_now b at (length from) → 0 < length from → new ≡ record b { bus = bus; halted = Some (Stuck k); erase = None }
     → LeavesRange width b at from (StuckHalt k) (with_bus b bus) → k < b.found.geometry.lanes → Counted least most b.bus bus
     → MakesEntry b new (entry_of b new caller (Program at from) (Halted (Stuck k)) []) a
 program_stuck b new bus a width caller at least most k from stands closed built wide unlocked none some same gives there counted =
@@ -342,7 +342,7 @@ program_stuck b new bus a width caller at least most k from stands closed built 
     let works : range_changes a at from ≡ true = lowest_some (would_change a.bytes at from) at (length from) changes.place low high (changing a at from changes.place low high apart) in
     let stuck : is_stuck (facts_of b) k ≡ true = stuck_lane b.bus.lanes k ∙ all.1 in
     let now : (lane bus k).part.stuck ≡ true = ap (λ (p : Part). p.stuck) (leaves.lasts k below).part ∙ all.1 in
-    program_halts b new bus a caller at from (Stuck k) stands closed unlocked none some same count leaves (λ bytes left. (refl, left)) (stuck, λ at_work. (unlocked, works)) (now, closed)
+    program_halts b new bus a caller at from (Stuck k) stands closed unlocked none some same count leaves (λ bytes left. (refl, left)) (stuck, λ at_work. (unlocked, works)) (now, refl)
 
 -- no word breaks off
 pub broken_never : (b : BankState) (a : ArrayState) (width at : ℕ) (from : List ℕ) → Stands b a → b.erase ≡ None → IsBuilt b → word_bytes b.found ≡ width

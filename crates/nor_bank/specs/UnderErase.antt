@@ -1,6 +1,7 @@
 -- An erase under way, lane by lane.
 use Rattle.std.specs.Prelude.{◌≡◌, ◌<◌, ◌≤◌, ◌+◌, ◌⊎◌, ◌==◌, ℕ, Bool, true, false, length, slice_index, slice_index_or}
 use Rattle.nor_cell.specs.Chip.{ChipState, Job, Idle, Program, Erase, Pausing, OneBlock, AllBlocks, Held, NotHeld, Holds, Fault, NoFault, TimeFault, AbortFault, Status, block, is_within, holds_block, reads_left}
+use Rattle.nor_cell.specs.Amd.{is_time}
 use Rattle.nor_cell.specs.Look.{is_weak}
 use Rattle.nor_cell.specs.declared.device.Set.{Set}
 use Rattle.nor_cell.specs.declared.device.Set.TheVariants.{Intel, Amd}
@@ -40,39 +41,31 @@ erases_block (Erase (OneBlock c) left) b = b == c
 erases_block (Erase AllBlocks left) b = false
 erases_block (Pausing c wait left) b = false
 
-abbrev pub is_time : Fault → Bool
-is_time NoFault = false
-is_time (TimeFault job) = true
-is_time AbortFault = false
-
 -- the chip tells that the erase broke off: by status bit 5, or by the fault Time
 abbrev pub tells_broken : Set → ChipState → Bool
 tells_broken Intel s = s.flags.erase
 tells_broken Amd s = is_time s.fault
 
--- it shows its status, and has no fault
-abbrev pub ShowsErase : Set → ChipState → Type 0
-ShowsErase Intel s = s.mode ≡ Status
-ShowsErase Amd s = s.fault ≡ NoFault
-
--- status bit 5, which set 0001 alone has, is clear
+-- no error is told: status bit 5 is clear, or there is no fault
 abbrev pub IsUntold : Set → ChipState → Type 0
 IsUntold Intel s = s.flags.erase ≡ false
-IsUntold Amd s = Unit {0}
+IsUntold Amd s = s.fault ≡ NoFault
 
+-- a chip of set 0001 shows its status
+abbrev pub ShowsErase : Set → ChipState → Type 0
+ShowsErase Intel s = s.mode ≡ Status
+ShowsErase Amd s = Unit {0}
+
+-- it erases the block
 pub record ErasesOn (e : Erasing) (s : ChipState) : Type 0 where
   pub job : erases_block s.job e.block ≡ true
   pub shows : ShowsErase s.part.set s
   pub untold : IsUntold s.part.set s
 
-abbrev pub ShowsEnd : Set → ChipState → Type 0
-ShowsEnd Intel s = s.mode ≡ Status
-ShowsEnd Amd s = Unit {0}
-
 -- it has ended so, and waits to be looked at
 pub record HasEnded (e : Erasing) (s : ChipState) : Type 0 where
   pub job : s.job ≡ Idle
-  pub shows : ShowsEnd s.part.set s
+  pub shows : ShowsErase s.part.set s
   pub outcome : (IsErased e s × (tells_broken s.part.set s ≡ false)) ⊎ (IsTorn e s × (tells_broken s.part.set s ≡ true))
 
 -- no job, and no held erase

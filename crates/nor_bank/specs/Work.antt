@@ -8,7 +8,7 @@ use Rattle.nor_array.specs.Refusals.{when, first_some}
 use Rattle.nor_array.specs.declared.entry.Halted.{Halted as HaltCause}
 use Rattle.nor_array.specs.declared.entry.Halted.TheVariants.{Off, Stuck}
 use Rattle.nor_array.specs.declared.entry.Reply.{Reply}
-use Rattle.nor_array.specs.declared.entry.Reply.TheVariants.{OutOfRange, TooLong, Halted}
+use Rattle.nor_array.specs.declared.entry.Reply.TheVariants.{Done, OutOfRange, TooLong, Failed, Halted}
 use Rattle.nor_cell.specs.declared.device.Work.TheVariants.{Word}
 use Rattle.nor_query.specs.Derived.{limit_of}
 use Rattle.nor_poll.specs.Word.{word_most}
@@ -46,8 +46,31 @@ kept_after kept _ = kept
 
 -- A call changes the bus, of which each chip stays what it is, and the halt that is kept.
 pub record Keeps (old new : BankState) (reply : Reply) : Type 0 where
-  pub rest : new ≡ record old { bus = new.bus; halted = kept_after old.halted reply }
+  pub found : new.found ≡ old.found
+  pub after : new.after ≡ old.after
+  pub halted : new.halted ≡ kept_after old.halted reply
   pub lanes : KeepsLanes old.bus new.bus
+  pub erase : old.erase ≡ None → new.erase ≡ None
+
+-- A halt of an earlier call is answered again.
+pub record AnswersKept (cause : HaltCause) (old new : BankState) (reply : Reply) : Type 0 where
+  pub answer : reply ≡ Halted cause
+  pub rest : new ≡ with_bus old new.bus
+  pub stays : Stays (Some cause) old.bus new.bus
+
+-- What may be answered where the range is the bank's and no halt is kept: a loss of power tells the number of the armed cut.
+abbrev pub ReadAnswers : (after : ℕ) → Reply → Type 0
+ReadAnswers after Done = Unit {0}
+ReadAnswers after (Halted (Off n)) = n ≡ after
+ReadAnswers after _ = ⊥
+
+-- a program may also fail in a part of its range, or meet a lane that never ends its work
+abbrev pub ProgramAnswers : (lanes after at len : ℕ) → Reply → Type 0
+ProgramAnswers lanes after at len Done = Unit {0}
+ProgramAnswers lanes after at len (Failed from to broken) = (at ≤ from) × (from < to) × (to ≤ at + len)
+ProgramAnswers lanes after at len (Halted (Off n)) = n ≡ after
+ProgramAnswers lanes after at len (Halted (Stuck k)) = k < lanes
+ProgramAnswers lanes after at len _ = ⊥
 
 -- What programs are built for: banks of which no chip has a weak place.
 abbrev pub IsBuilt : BankState → Type 0

@@ -17,24 +17,21 @@ ghost use Rattle.nor_bank.specs.Programs.{Lasts, MeetsWord, GivesUp};
 ghost use Rattle.nor_bank.specs.Ranges.{words_met, CanRead, ReadsRange};
 ghost use Rattle.nor_bank.specs.Stands.{Stands};
 ghost use Rattle.nor_bank.specs.State.{size_of, IsDark};
-ghost use Rattle.nor_bank.specs.Work.{Asks, range_refusal, with_bus, Stays, Keeps, IsBuilt, word_limit, word_cycles, ProgramsRange, NotBroken, LeavesRange};
+ghost use Rattle.nor_bank.specs.Work.{Asks, range_refusal, with_bus, Stays, Keeps, AnswersKept, ReadAnswers, ProgramAnswers, IsBuilt, word_limit, word_cycles, ProgramsRange, NotBroken, LeavesRange};
 
 use crate::Bank;
 use crate::programming::{Broken, failed, program_range};
 use crate::reading::read_range;
-use nor_array::{Halted, Reply};
+use nor_array::{Halted, MAX_LEN, Reply};
 use nor_bus::{Bus, Off, read_word};
 use nor_cell::Work;
 use nor_poll::Halt;
 use nor_word::BusWord;
 
-/// The most bytes of a read or a program.
-pub const MAX_LEN: usize = 4096;
-
 impl<W: BusWord, B: Bus<W>> Bank<W, B> {
     /// What a read or a program of so many bytes is refused with before anything is asked of the chips:
     /// `OutOfRange` where the bank lacks some of them, else `TooLong` where there are more than
-    /// [`MAX_LEN`].
+    /// [`MAX_LEN`]. A read that is refused so makes its entry, whatever its length.
     pub fn range_refusal(&self, at: u32, len: u64) -> Option<Reply>
         ensures refusal { result ≡ range_refusal (size_of (self.now).found) at len }
         ensures few { result ≡ None → at + len < 2 ^ 32 }
@@ -60,13 +57,14 @@ impl<W: BusWord, B: Bus<W>> Bank<W, B> {
         }
     }
 
-    // A first halt is kept.
+    // A first halt is kept, and an erase is given up.
     fn halt(&mut self, cause: Halted) -> Reply
         requires dark { IsDark (Some cause) (self.old).bus }
         ensures reply { result ≡ HaltedReply cause }
-        ensures kept { self.new ≡ record self.old { halted = Some cause } }
+        ensures kept { self.new ≡ record self.old { halted = Some cause; erase = None } }
     {
         self.halted = Some(cause);
+        self.erase = None;
         Reply::Halted(cause)
     }
 
@@ -74,7 +72,7 @@ impl<W: BusWord, B: Bus<W>> Bank<W, B> {
     fn lose(&mut self) -> Reply
         requires dark { (self.old).bus.power ≡ false }
         ensures reply { result ≡ HaltedReply (NoPower (self.old).after) }
-        ensures kept { self.new ≡ record self.old { halted = Some (NoPower (self.old).after) } }
+        ensures kept { self.new ≡ record self.old { halted = Some (NoPower (self.old).after); erase = None } }
     {
         self.halt(Halted::Off { after: self.after })
     }
@@ -99,15 +97,22 @@ impl<W: BusWord, B: Bus<W>> Bank<W, B> {
     ///
     /// `OutOfRange` comes exactly where the bank lacks some of the bytes, else `TooLong` exactly where
     /// there are more than [`MAX_LEN`]; both leave everything as it was, without a cycle. A halt of an
-    /// earlier call is answered again. A read of no bytes is `Done` without a cycle. `Halted` with the
-    /// number of the armed cut comes only where a cycle failed, and says nothing of `into`.
+    /// earlier call is answered again, after a loss of power with one cycle that fails. A read of no
+    /// bytes is `Done` without a cycle. `Halted` comes only where a cycle failed, with the number of the
+    /// armed cut, 0 where none was armed by a call; it says nothing of `into`. A caller is 1 to 8.
     pub fn read(&mut self, caller: u8, at: u32, into: &mut [u8]) -> Reply
         ensures makes { (self.old).erase ≡ None → Makes self.old self.new (entry_of self.old self.new caller (Read at (length into.old)) result into.new) }
         ensures lasts { (self.old).erase ≡ None → (a : ArrayState) → Stands self.old a → EachLane Lasts (self.old).bus (self.new).bus }
         ensures refused { (reply : Reply) → range_refusal (size_of (self.old).found) at (length into.old) ≡ Some reply → (result ≡ reply) × (self.new ≡ self.old) }
+        ensures kept { (cause : HaltCause) → range_refusal (size_of (self.old).found) at (length into.old) ≡ None → (self.old).halted ≡ Some cause
+            → AnswersKept cause self.old self.new result }
+        ensures answers { range_refusal (size_of (self.old).found) at (length into.old) ≡ None → (self.old).halted ≡ None → ReadAnswers (self.old).after result }
         ensures unchanged { result ≢ DoneReply → ((cause : HaltCause) → result ≢ HaltedReply cause) → into.new ≡ into.old }
         ensures empty { into.old ≡ [] → result ≡ DoneReply → self.new ≡ self.old }
-        ensures done { result ≡ DoneReply → 0 < length into.old → Went (words_met at (length into.old) W.WIDTH) (words_met at (length into.old) W.WIDTH) (self.old).bus (self.new).bus }
+        ensures done { result ≡ DoneReply → 0 < length into.old
+            → Went (words_met at (length into.old) W.WIDTH) (60 + words_met at (length into.old) W.WIDTH) (self.old).bus (self.new).bus }
+        ensures exact { (self.old).erase ≡ None → result ≡ DoneReply → 0 < length into.old
+            → Went (words_met at (length into.old) W.WIDTH) (words_met at (length into.old) W.WIDTH) (self.old).bus (self.new).bus }
         ensures asks { Asks (60 + words_met at (length into.old) W.WIDTH) (self.old).bus (self.new).bus }
         ensures off { (after : ℕ) → result ≡ HaltedReply (NoPower after) → more 1 (self.old).bus.failed ≤ (self.new).bus.failed }
         ensures keeps { Keeps self.old self.new result }
@@ -159,8 +164,8 @@ impl<W: BusWord, B: Bus<W>> Bank<W, B> {
     /// Bus words that wouldn't change are only read. The refusals are those of [`Bank::read`], and a
     /// program of no bytes is `Done` without a cycle. `Failed` tells the bytes of the first bus word in
     /// which a chip broke off, as far as they lie in the range, and its lanes; the words before are
-    /// done, and those behind are as they were. `Halted` comes only where a cycle failed, with the
-    /// number of the armed cut, or where a lane was read working as often as its table allows; then
+    /// done, and those behind are as they were. A first `Halted` comes only where a cycle failed, with
+    /// the number of the armed cut, or where a lane was read working as often as its table allows; then
     /// each byte of the range has bits between what it was and what is programmed.
     ///
     /// What it makes holds where no chip has a weak place, and no block of the range is locked. For each
@@ -171,6 +176,10 @@ impl<W: BusWord, B: Bus<W>> Bank<W, B> {
         ensures lasts { (self.old).erase ≡ None → IsBuilt self.old → (a : ArrayState) → Stands self.old a → first_locked a (Program at from.now) ≡ None
             → EachLane Lasts (self.old).bus (self.new).bus }
         ensures refused { (reply : Reply) → range_refusal (size_of (self.old).found) at (length from.now) ≡ Some reply → (result ≡ reply) × (self.new ≡ self.old) }
+        ensures kept { (cause : HaltCause) → range_refusal (size_of (self.old).found) at (length from.now) ≡ None → (self.old).halted ≡ Some cause
+            → AnswersKept cause self.old self.new result }
+        ensures answers { range_refusal (size_of (self.old).found) at (length from.now) ≡ None → (self.old).halted ≡ None
+            → ProgramAnswers (self.old).found.geometry.lanes (self.old).after at (length from.now) result }
         ensures empty { from.now ≡ [] → result ≡ DoneReply → self.new ≡ self.old }
         ensures asks { Asks (80 + words_met at (length from.now) W.WIDTH * (10 + 2 * word_limit self.old)) (self.old).bus (self.new).bus }
         ensures off { (after : ℕ) → result ≡ HaltedReply (NoPower after) → more 1 (self.old).bus.failed ≤ (self.new).bus.failed }
