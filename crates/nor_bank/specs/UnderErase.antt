@@ -1,6 +1,6 @@
 -- An erase under way, lane by lane.
-use Rattle.std.specs.Prelude.{◌≡◌, ◌<◌, ◌≤◌, ◌+◌, ◌⊎◌, ◌==◌, ℕ, List, Bool, true, false, length, slice_index, slice_index_or}
-use Rattle.nor_cell.specs.Chip.{ChipState, Part, Job, Idle, Program, Erase, Pausing, Target, OneBlock, AllBlocks, Held, NotHeld, Holds, Fault, NoFault, TimeFault, AbortFault, Status, block, is_within, holds_block, reads_left}
+use Rattle.std.specs.Prelude.{◌≡◌, ◌<◌, ◌≤◌, ◌+◌, ◌⊎◌, ◌==◌, ℕ, Bool, true, false, length, slice_index, slice_index_or}
+use Rattle.nor_cell.specs.Chip.{ChipState, Job, Idle, Program, Erase, Pausing, OneBlock, AllBlocks, Held, NotHeld, Holds, Fault, NoFault, TimeFault, AbortFault, Status, block, is_within, holds_block, reads_left}
 use Rattle.nor_cell.specs.Look.{is_weak}
 use Rattle.nor_cell.specs.declared.device.Set.{Set}
 use Rattle.nor_cell.specs.declared.device.Set.TheVariants.{Intel, Amd}
