@@ -38,8 +38,8 @@ stands_for_one b a stands running closed =
     let long : length all ≡ size_of b.found = length-bank_bytes device b.bus.lanes 0 (size_of b.found) in
     let size = stands.size in
     let bytes : a.bytes ≡ all = ext_get_or 0 a.bytes all (size ∙ sym long)
-        (λ i less. let below : i < size_of b.found = omega (arith, size, less) in
-        let first : 0 + i ≡ i = omega arith in
-        byte_now b a i stands closed below ∙ sym (bank_bytes-at device b.bus.lanes 0 (size_of b.found) i below ∙ ap (λ (n : ℕ). bank_byte device b.bus.lanes n) first)) in
+    (λ i less. let below : i < size_of b.found = omega (arith, size, less) in
+    let first : 0 + i ≡ i = omega arith in
+    byte_now b a i stands closed below ∙ sym (bank_bytes-at device b.bus.lanes 0 (size_of b.found) i below ∙ ap (λ (n : ℕ). bank_byte device b.bus.lanes n) first)) in
     let locks = sym (on.locks 0 (known_some b.found b.bus stands.known)) in
     record_is a (array_of b) stands.consts bytes locks stands.under stands.power (cut_is b.after b.bus.armed a.armed on.cut)

@@ -72,13 +72,13 @@ pub fn pair_of(first: u16, second: u16) -> Seen
 }
 
 // The same of a lane that no longer works.
-fn over_of(first: u16, second: u16) -> Seen
-    ensures { result ≡ over_says first second }
+fn over_of(second: u16, third: u16) -> Seen
+    ensures { result ≡ over_says second third }
 {
-    if first == second {
+    if second == third {
         Seen::Ready
-    } else if toggle(first, second) {
-        fault_of(first)
+    } else if toggle(second, third) {
+        fault_of(second)
     } else {
         Seen::Suspended
     }

@@ -5,8 +5,9 @@ ghost use Rattle.nor_cell.specs.Ranges.{are_blocks, is_ascending_below, begin_un
 ghost use Rattle.nor_cell.specs.Wiring.{is_wiring};
 ghost use Rattle.nor_trials.specs.Alike.{IsAlike};
 
+use nor_amd::Amd;
 use nor_bus::SimBank;
-use nor_cell::{CellParts, Device, Geometry, Span, make_cells, unit_len};
+use nor_cell::{CellParts, Cells, Device, Geometry, Span, make_cells, unit_len};
 use nor_intel::Intel;
 use nor_word::BusWord;
 use std::alloc::{AllocError, Global};
@@ -78,8 +79,9 @@ fn eight_blocks(alloc: Global) -> Result<Vec<Span>, AllocError>
     Ok(blocks)
 }
 
-fn make_chip(rt: &impl Abort, alloc: Global, setup: Setup, lane: u8) -> Result<Intel, Fail>
-    ensures { IfOk result (IsAlike setup.geometry.device) }
+fn cells_of(rt: &impl Abort, alloc: Global, setup: Setup, lane: u8) -> Result<Cells, Fail>
+    ensures device { IfOk result (λ cells. cells.device ≡ setup.geometry.device) }
+    ensures size { IfOk result (λ cells. length cells.bytes.items ≡ 4096) }
 {
     let mut table = [0; 512];
     for (i, byte) in TABLE.iter().enumerate() {
@@ -102,7 +104,7 @@ fn make_chip(rt: &impl Abort, alloc: Global, setup: Setup, lane: u8) -> Result<I
             blocks: eight_blocks(alloc)?,
         },
     )?;
-    Ok(Intel::new(cells))
+    Ok(cells)
 }
 
 fn make_chips(rt: &impl Abort, alloc: Global, setup: Setup) -> Result<Vec<Intel>, Fail>
@@ -111,12 +113,12 @@ fn make_chips(rt: &impl Abort, alloc: Global, setup: Setup) -> Result<Vec<Intel>
 {
     let mut chips = Vec::new(alloc);
     for lane in 0..setup.geometry.lanes {
-        chips.push(make_chip(rt, alloc, setup, lane)?)?;
+        chips.push(Intel::new(cells_of(rt, alloc, setup, lane)?))?;
     }
     Ok(chips)
 }
 
-/// A bank of such chips, just powered on.
+/// A bank of such chips of set 0001, just powered on.
 #[tactic(auto, using(crate::proofs::Wired::are_bank))]
 pub fn make_bank<W: BusWord>(
     rt: &impl Abort,
@@ -126,5 +128,29 @@ pub fn make_bank<W: BusWord>(
     requires { IsTrue (is_wiring W.WIDTH setup.geometry.lanes setup.geometry.device) }
 {
     let chips = make_chips(rt, alloc, setup)?;
+    Ok(SimBank::new(setup.geometry.device, chips))
+}
+
+fn make_amd_chips(rt: &impl Abort, alloc: Global, setup: Setup) -> Result<Vec<Amd>, Fail>
+    ensures count { IfOk result (λ chips. length chips.items ≡ setup.geometry.lanes) }
+    ensures alike { IfOk result (λ chips. All (IsAlike setup.geometry.device) chips.items) }
+{
+    let mut chips = Vec::new(alloc);
+    for lane in 0..setup.geometry.lanes {
+        chips.push(Amd::new(cells_of(rt, alloc, setup, lane)?))?;
+    }
+    Ok(chips)
+}
+
+/// A bank of such chips of set 0002, just powered on.
+#[tactic(auto, using(crate::proofs::Wired::are_bank))]
+pub fn make_amd_bank<W: BusWord>(
+    rt: &impl Abort,
+    alloc: Global,
+    setup: Setup,
+) -> Result<SimBank<W, Amd>, Fail>
+    requires { IsTrue (is_wiring W.WIDTH setup.geometry.lanes setup.geometry.device) }
+{
+    let chips = make_amd_chips(rt, alloc, setup)?;
     Ok(SimBank::new(setup.geometry.device, chips))
 }

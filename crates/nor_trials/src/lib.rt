@@ -11,6 +11,8 @@
 #![tactic(auto)]
 
 #[cfg(test)]
+mod amd_words;
+#[cfg(test)]
 mod banks;
 #[cfg(test)]
 mod chips;
