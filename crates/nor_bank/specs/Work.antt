@@ -3,7 +3,7 @@ use Rattle.std.specs.Prelude.{◌≡◌, ◌≢◌, ◌<◌, ◌≤◌, ◌+◌,
 use Rattle.std.specs.Option.{option_or, option_map}
 use Rattle.nor_bus.specs.Bus.{BusState}
 use Rattle.nor_bus.specs.Cycles.{BusFails, KeepsLanes}
-use Rattle.nor_bus.specs.Driven.{AllLanes}
+use Rattle.nor_bus.specs.Driven.{AllLanes, Went}
 use Rattle.nor_array.specs.Refusals.{when, first_some}
 use Rattle.nor_array.specs.declared.entry.Halted.{Halted as HaltCause}
 use Rattle.nor_array.specs.declared.entry.Halted.TheVariants.{Off, Stuck}
@@ -13,7 +13,8 @@ use Rattle.nor_cell.specs.declared.device.Work.TheVariants.{Word}
 use Rattle.nor_query.specs.Derived.{limit_of}
 use Rattle.nor_poll.specs.Word.{word_most}
 use Rattle.nor_poll.specs.declared.lanes.Halt.{Halt}
-use Rattle.nor_bank.specs.Programs.{CanProgram, ProgramsTo, LeavesBy, IsSound}
+use Rattle.nor_bank.specs.Programs.{CanProgram, ProgramsTo, Unchanging, LeavesBy, IsSound}
+use Rattle.nor_bank.specs.Ranges.{words_met}
 use Rattle.nor_bank.specs.State.{BankState, size_of}
 
 -- At most so many cycles were asked for, the one that failed among them.
@@ -93,6 +94,12 @@ CanProgramIn width b at new = CanProgram width b.found.query.set b.found.geometr
 abbrev pub ProgramsRange : (width : ℕ) (old : BankState) (at : ℕ) (new : List ℕ) → BankState → Type 0
 ProgramsRange width old at new now =
     CanProgramIn width old at new → AllLanes IsSound old.bus → ProgramsTo old.found.geometry.device at new (at + length new) old.bus now.bus
+
+-- and where no byte would change, each bus word was only read
+abbrev pub SkipsRange : (width : ℕ) (old : BankState) (at : ℕ) (new : List ℕ) → BankState → Type 0
+SkipsRange width old at new now =
+    CanProgramIn width old at new → AllLanes IsSound old.bus → Unchanging old.found.geometry.device at new old.bus
+    → Went (words_met at (length new) width) (words_met at (length new) width) old.bus now.bus
 
 -- no lane breaks off where none is weak
 abbrev pub NotBroken : (width : ℕ) (old : BankState) (at : ℕ) (new : List ℕ) → Type 0

@@ -5,6 +5,7 @@ ghost use Rattle.nor_cell.specs.declared.device.Device.{Device};
 ghost use Rattle.nor_poll.specs.Losing.{Darkens};
 ghost use Rattle.nor_array.specs.Array.{ArrayState};
 ghost use Rattle.nor_array.specs.Admits.{first_locked};
+ghost use Rattle.nor_array.specs.Legal.{range_changes};
 ghost use Rattle.nor_array.specs.declared.entry.Halted.{Halted as HaltCause};
 ghost use Rattle.nor_array.specs.declared.entry.Halted.TheVariants.{Off as NoPower, Stuck as StuckAt};
 ghost use Rattle.nor_array.specs.declared.entry.Reply.{Reply};
@@ -17,7 +18,7 @@ ghost use Rattle.nor_bank.specs.Programs.{Lasts, MeetsWord, GivesUp};
 ghost use Rattle.nor_bank.specs.Ranges.{words_met, CanRead, ReadsRange};
 ghost use Rattle.nor_bank.specs.Stands.{Stands};
 ghost use Rattle.nor_bank.specs.State.{size_of, IsDark};
-ghost use Rattle.nor_bank.specs.Work.{Asks, range_refusal, with_bus, Stays, Keeps, AnswersKept, ReadAnswers, ProgramAnswers, IsBuilt, word_limit, word_cycles, ProgramsRange, NotBroken, LeavesRange};
+ghost use Rattle.nor_bank.specs.Work.{Asks, range_refusal, with_bus, Stays, Keeps, AnswersKept, ReadAnswers, ProgramAnswers, IsBuilt, word_limit, word_cycles, ProgramsRange, SkipsRange, NotBroken, LeavesRange};
 
 use crate::Bank;
 use crate::programming::{Broken, failed, program_range};
@@ -35,7 +36,8 @@ impl<W: BusWord, B: Bus<W>> Bank<W, B> {
     pub fn range_refusal(&self, at: u32, len: u64) -> Option<Reply>
         ensures refusal { result ≡ range_refusal (size_of (self.now).found) at len }
         ensures few { result ≡ None → at + len < 2 ^ 32 }
-        ensures makes { IfSome result (λ reply. (self.now).erase ≡ None → (caller : ℕ) → Makes self.now self.now (entry_of self.now self.now caller (Read at len) reply [])) }
+        ensures makes { IfSome result (λ reply. (self.now).erase ≡ None → (caller : ℕ)
+            → Makes self.now self.now (entry_of self.now self.now caller (Read at len) reply [])) }
     {
         let size = u64::from(self.size());
         if u64::from(at) > size || len > size - u64::from(at) {
@@ -84,7 +86,8 @@ impl<W: BusWord, B: Bus<W>> Bank<W, B> {
         requires running { (self.old).halted ≡ None }
         ensures length { length into.new ≡ length into.old }
         ensures same { self.new ≡ with_bus self.old (self.new).bus }
-        ensures reads { OnOk result ((device : Device) → CanRead W.WIDTH device (self.old).bus at (length into.old) → ReadsRange device (self.old).bus (self.new).bus at into.new) }
+        ensures reads { OnOk result ((device : Device) → CanRead W.WIDTH device (self.old).bus at (length into.old)
+            → ReadsRange device (self.old).bus (self.new).bus at into.new) }
         ensures went { OnOk result (Went (words_met at (length into.old) W.WIDTH) (words_met at (length into.old) W.WIDTH) (self.old).bus (self.new).bus) }
         ensures lost { OnErr result (Lost (words_met at (length into.old) W.WIDTH) (self.old).bus (self.new).bus) }
         ensures dark { OnErr result ((device : Device) → CanRead W.WIDTH device (self.old).bus at (length into.old) → EachLane Darkens (self.old).bus (self.new).bus) }
@@ -141,6 +144,7 @@ impl<W: BusWord, B: Bus<W>> Bank<W, B> {
         requires running { (self.old).halted ≡ None }
         ensures same { self.new ≡ with_bus self.old (self.new).bus }
         ensures programs { result ≡ Ok None → ProgramsRange W.WIDTH self.old at from.now self.new }
+        ensures skips { result ≡ Ok None → SkipsRange W.WIDTH self.old at from.now self.new }
         ensures sound { (broken : BrokenWord) → result ≡ Ok (Some broken) → NotBroken W.WIDTH self.old at from.now }
         ensures there { (broken : BrokenWord) → result ≡ Ok (Some broken) → MeetsWord W.WIDTH broken.unit at (length from.now) }
         ensures counted { OnOk result (Counted 1 (words_met at (length from.now) W.WIDTH * word_cycles self.old) (self.old).bus (self.new).bus) }
@@ -181,6 +185,9 @@ impl<W: BusWord, B: Bus<W>> Bank<W, B> {
         ensures answers { range_refusal (size_of (self.old).found) at (length from.now) ≡ None → (self.old).halted ≡ None
             → ProgramAnswers (self.old).found.geometry.lanes (self.old).after at (length from.now) result }
         ensures empty { from.now ≡ [] → result ≡ DoneReply → self.new ≡ self.old }
+        ensures skips { result ≡ DoneReply → 0 < length from.now → (self.old).erase ≡ None → IsBuilt self.old → (a : ArrayState) → Stands self.old a
+            → first_locked a (Program at from.now) ≡ None → range_changes a at from.now ≡ false
+            → Went (words_met at (length from.now) W.WIDTH) (words_met at (length from.now) W.WIDTH) (self.old).bus (self.new).bus }
         ensures asks { Asks (80 + words_met at (length from.now) W.WIDTH * (10 + 2 * word_limit self.old)) (self.old).bus (self.new).bus }
         ensures off { (after : ℕ) → result ≡ HaltedReply (NoPower after) → more 1 (self.old).bus.failed ≤ (self.new).bus.failed }
         ensures stuck { (k : ℕ) → result ≡ HaltedReply (StuckAt k) → (self.old).halted ≡ None → more (word_limit self.old) (self.old).bus.cycles ≤ (self.new).bus.cycles }

@@ -24,8 +24,11 @@ pub fn program_word<W: BusWord, B: Bus<W>>(
     limit: u32,
 ) -> Result<LaneSet, Halt>
     requires wiring { IsTrue (is_wiring W.WIDTH g.lanes g.device) }
-    ensures done { OnOk result (IsOwn W.WIDTH g (B.state bus.old) → at < units_of (B.state bus.old) → EachPart (W.bytes new) (ProgramsWord set at) (B.state bus.old) (B.state bus.new)) }
-    ensures told { IfOk result (λ broken. IsOwn W.WIDTH g (B.state bus.old) → at < units_of (B.state bus.old) → (c : ℕ) → c < lanes_of (B.state bus.old) → TellsBroken set at (has_bit broken.bits c) (lane_of (wide (lane (B.state bus.old) c)) (W.bytes new) c) (lane (B.state bus.old) c)) }
+    ensures done { OnOk result (IsOwn W.WIDTH g (B.state bus.old) → at < units_of (B.state bus.old)
+        → EachPart (W.bytes new) (ProgramsWord set at) (B.state bus.old) (B.state bus.new)) }
+    ensures told { IfOk result (λ broken. IsOwn W.WIDTH g (B.state bus.old) → at < units_of (B.state bus.old) → (c : ℕ)
+        → c < lanes_of (B.state bus.old)
+        → TellsBroken set at (has_bit broken.bits c) (lane_of (wide (lane (B.state bus.old) c)) (W.bytes new) c) (lane (B.state bus.old) c)) }
     ensures past { IfOk result (λ broken. (c : ℕ) → g.lanes ≤ c → has_bit broken.bits c ≡ false) }
     ensures went { OnOk result (Counted 5 (word_most set limit) (B.state bus.old) (B.state bus.new)) }
     ensures halts { IfErr result (WordHalts set W.WIDTH g at (W.bytes new) limit (B.state bus.old) (B.state bus.new)) }

@@ -1,11 +1,11 @@
 ghost use Rattle.std.specs.Prelude.{◌≡◌, ◌≢◌, ◌<◌, ◌≤◌, ◌+◌, ◌-◌, ◌*◌, ◌/◌, ◌^◌, ℕ, length, slice_index, min, max, IsTrue, IfOk, IfErr, OnOk, Ok, Some, None};
 ghost use Rattle.nor_cell.specs.Wiring.{is_wiring};
 ghost use Rattle.nor_bus.specs.Bus.{units_of};
-ghost use Rattle.nor_bus.specs.Driven.{AllLanes};
+ghost use Rattle.nor_bus.specs.Driven.{AllLanes, Went};
 ghost use Rattle.nor_poll.specs.Counted.{Counted};
 ghost use Rattle.nor_poll.specs.Word.{word_most};
 ghost use Rattle.nor_array.specs.declared.entry.Reply.TheVariants.{Failed};
-ghost use Rattle.nor_bank.specs.Programs.{datum_at, MeetsWord, CanProgram, ProgramsTo, ProgramsPart, LeavesBy, GivesUp, IsSound};
+ghost use Rattle.nor_bank.specs.Programs.{datum_at, MeetsWord, CanProgram, ProgramsTo, ProgramsPart, Unchanging, LeavesBy, GivesUp, IsSound};
 ghost use Rattle.nor_bank.specs.Ranges.{words_met};
 ghost use Rattle.nor_bank.specs.declared.programming.Broken.{Broken};
 
@@ -51,11 +51,17 @@ fn program_one<W: BusWord, B: Bus<W>>(
     limit: u32,
 ) -> Result<LaneSet, Halt>
     requires wiring { IsTrue (is_wiring W.WIDTH g.lanes g.device) }
-    ensures programs { OnOk result (CanProgram W.WIDTH kind g limit at (length new.now) (B.state bus.old) → MeetsWord W.WIDTH u at (length new.now) → AllLanes IsSound (B.state bus.old) → ProgramsPart g.device at new.now (u * W.WIDTH) (u * W.WIDTH + W.WIDTH) (B.state bus.old) (B.state bus.new)) }
-    ensures sound { IfOk result (λ lanes. CanProgram W.WIDTH kind g limit at (length new.now) (B.state bus.old) → MeetsWord W.WIDTH u at (length new.now) → AllLanes IsSound (B.state bus.old) → lanes.bits ≡ 0) }
+    ensures programs { OnOk result (CanProgram W.WIDTH kind g limit at (length new.now) (B.state bus.old) → MeetsWord W.WIDTH u at (length new.now)
+        → AllLanes IsSound (B.state bus.old)
+        → ProgramsPart g.device at new.now (u * W.WIDTH) (u * W.WIDTH + W.WIDTH) (B.state bus.old) (B.state bus.new)) }
+    ensures sound { IfOk result (λ lanes. CanProgram W.WIDTH kind g limit at (length new.now) (B.state bus.old)
+        → MeetsWord W.WIDTH u at (length new.now) → AllLanes IsSound (B.state bus.old) → lanes.bits ≡ 0) }
     ensures counted { OnOk result (Counted 1 (word_most kind limit + 1) (B.state bus.old) (B.state bus.new)) }
+    ensures skips { OnOk result (CanProgram W.WIDTH kind g limit at (length new.now) (B.state bus.old) → MeetsWord W.WIDTH u at (length new.now)
+        → Unchanging g.device at new.now (B.state bus.old) → Went 1 1 (B.state bus.old) (B.state bus.new)) }
     ensures halts { IfErr result (λ halt. GivesUp g.lanes limit (word_most kind limit + 1) halt (B.state bus.old) (B.state bus.new)) }
-    ensures leaves { IfErr result (λ halt. CanProgram W.WIDTH kind g limit at (length new.now) (B.state bus.old) → MeetsWord W.WIDTH u at (length new.now) → LeavesBy g.device at new.now (u * W.WIDTH) halt (B.state bus.old) (B.state bus.new)) }
+    ensures leaves { IfErr result (λ halt. CanProgram W.WIDTH kind g limit at (length new.now) (B.state bus.old)
+        → MeetsWord W.WIDTH u at (length new.now) → LeavesBy g.device at new.now (u * W.WIDTH) halt (B.state bus.old) (B.state bus.new)) }
     ensures units { units_of (B.state bus.new) ≡ units_of (B.state bus.old) }
 {
     let old: W = read_word::<W, B>(bus, u)?;
@@ -79,12 +85,17 @@ pub(crate) fn program_range<W: BusWord, B: Bus<W>>(
     requires wiring { IsTrue (is_wiring W.WIDTH g.lanes g.device) }
     requires some { 0 < length new.now }
     requires few { at + length new.now < 2 ^ 32 }
-    ensures programs { result ≡ Ok None → CanProgram W.WIDTH kind g limit at (length new.now) (B.state bus.old) → AllLanes IsSound (B.state bus.old) → ProgramsTo g.device at new.now (at + length new.now) (B.state bus.old) (B.state bus.new) }
-    ensures sound { (broken : Broken) → result ≡ Ok (Some broken) → CanProgram W.WIDTH kind g limit at (length new.now) (B.state bus.old) → AllLanes IsSound (B.state bus.old) → ⊥ }
+    ensures programs { result ≡ Ok None → CanProgram W.WIDTH kind g limit at (length new.now) (B.state bus.old) → AllLanes IsSound (B.state bus.old)
+        → ProgramsTo g.device at new.now (at + length new.now) (B.state bus.old) (B.state bus.new) }
+    ensures sound { (broken : Broken) → result ≡ Ok (Some broken) → CanProgram W.WIDTH kind g limit at (length new.now) (B.state bus.old)
+        → AllLanes IsSound (B.state bus.old) → ⊥ }
     ensures counted { OnOk result (Counted 1 (words_met at (length new.now) W.WIDTH * (word_most kind limit + 1)) (B.state bus.old) (B.state bus.new)) }
+    ensures skips { result ≡ Ok None → CanProgram W.WIDTH kind g limit at (length new.now) (B.state bus.old) → AllLanes IsSound (B.state bus.old)
+        → Unchanging g.device at new.now (B.state bus.old) → Went (words_met at (length new.now) W.WIDTH) (words_met at (length new.now) W.WIDTH) (B.state bus.old) (B.state bus.new) }
     ensures there { (broken : Broken) → result ≡ Ok (Some broken) → MeetsWord W.WIDTH broken.unit at (length new.now) }
     ensures halts { IfErr result (λ halt. GivesUp g.lanes limit (words_met at (length new.now) W.WIDTH * (word_most kind limit + 1)) halt (B.state bus.old) (B.state bus.new)) }
-    ensures leaves { IfErr result (λ halt. CanProgram W.WIDTH kind g limit at (length new.now) (B.state bus.old) → AllLanes IsSound (B.state bus.old) → LeavesBy g.device at new.now at halt (B.state bus.old) (B.state bus.new)) }
+    ensures leaves { IfErr result (λ halt. CanProgram W.WIDTH kind g limit at (length new.now) (B.state bus.old) → AllLanes IsSound (B.state bus.old)
+        → LeavesBy g.device at new.now at halt (B.state bus.old) (B.state bus.new)) }
     ensures units { units_of (B.state bus.new) ≡ units_of (B.state bus.old) }
 {
     let first = word_of::<W>(at);

@@ -2,7 +2,7 @@ use Rattle.std.proofs.Common.{◌≢◌, ◌*◌, length}
 use Rattle.std.proofs.lemmas.Result.{IfErr-weaker, on_ok_weaker}
 use Rattle.nor_poll.specs.declared.lanes.Halt.TheVariants.{Off}
 use Rattle.nor_bank.specs.Programs.{CanProgram, MeetsWord, LeavesBy}
-use Rattle.nor_bank.proofs.OneWord.{OneRead, if_gave, if_both, one_read, one_skipped, one_done, one_sound, one_leaves, one_counted, one_gives_up, dark_leaves}
+use Rattle.nor_bank.proofs.OneWord.{OneRead, if_gave, if_both, one_read, one_skipped, one_done, one_sound, one_leaves, one_unchanging, on_ok, one_counted, one_gives_up, dark_leaves}
 use Rattle.nor_bank.proofs.Padding.{some_byte}
 use Rattle.nor_bank.proofs.programming.program_one.Given.{Over}
 use Rattle.nor_bank.proofs.programming.program_one.Goals.{After-program_word}
@@ -77,6 +77,19 @@ pub returns-clause-counted : goal.returns-clause-counted
 returns-clause-counted g c = on_ok_weaker c.program_word.result
     (one_counted c.args.kind c.args.limit (g.B.Bus.state c.args.bus.now) (g.B.Bus.state c.read_word.new.bus) (g.B.Bus.state c.program_word.new.bus) c.in_ok-old.ensures.went)
     c.program_word.ensures.went
+
+pub returns-clause-skips : goal.returns-clause-skips
+returns-clause-skips g c =
+    let w = g.W.BusWord.WIDTH in
+    let old = g.B.Bus.state c.args.bus.now in
+    let mid = g.B.Bus.state c.read_word.new.bus in
+    let before = g.W.BusWord.bytes c.in_ok-old.old in
+    let padded = g.W.BusWord.bytes c.pad_word.result in
+    let word = g.W.BusWord.bytes c.and-word.result in
+    let apart : word ≢ before = λ e. let is = c.equals.ensures.1 e in let not = c.if-equals.false in cc in
+    on_ok c.program_word.result
+    (λ can meets unchanging. one_unchanging w c.args.kind c.args.g c.args.limit c.args.u c.args.at c.args.new.now old mid before padded word can (joined g c can meets)
+    (g.met.W.BusWord.wide c.and-word.result) (g.met.W.BusWord.wide c.in_ok-old.old) apart unchanging)
 
 pub returns-clause-halts : goal.returns-clause-halts
 returns-clause-halts g c =

@@ -12,7 +12,7 @@ use Rattle.nor_bank.specs.Ranges.{words_met}
 use Rattle.nor_bank.specs.State.{BankState}
 use Rattle.nor_bank.specs.Work.{Asks, LeavesRange, word_limit, word_cycles}
 use Rattle.nor_bank.proofs.Asking.{asks_lost, asks_counted}
-use Rattle.nor_bank.proofs.Programmed.{program_done, program_nothing, program_off, program_stuck, lasts_program, lasts_given_up, broken_never}
+use Rattle.nor_bank.proofs.Programmed.{program_done, program_nothing, program_off, program_stuck, lasts_program, lasts_given_up, skips_program, broken_never}
 use Rattle.nor_bank.proofs.Refusing.{program_range}
 use Rattle.nor_bank.proofs.Served.{range_refused, lost_bank, lost_reply, halted_bank, keeps_halted, kept_answer, none_answer, ready, no_bytes_in}
 use Rattle.nor_bank.proofs.Standing.{bytes_known, lasts_same, lasts_staying}
@@ -92,6 +92,15 @@ returns-in-Ok-Some-clause-lasts g c closed built a stands unlocked =
     c.range_refusal.ensures.refusal c.in_default.is c.is_empty.ensures c.if-is_empty.false in
     absurd (broken_never now a w c.args.at c.args.from.now stands closed built is.wide unlocked is.none is.some
     (c.in-Ok-Some.ensures.sound c.in-Ok-Some.broken (ap Ok c.in-Ok-Some.field-0-is)))
+
+pub returns-in-Ok-None-clause-skips : goal.returns-in-Ok-None-clause-skips
+returns-in-Ok-None-clause-skips g c = λ done more closed built a stands unlocked same.
+    let now = c.args.self.now in
+    let w = g.W.BusWord.WIDTH in
+    let is = ready now _ w c.args.at (length c.args.from.now) c.range_refusal.result c.is_empty.result c.self.view_is c.self.invariant.wiring c.in_default-halted.is
+    c.range_refusal.ensures.refusal c.in_default.is c.is_empty.ensures c.if-is_empty.false in
+    skips_program now c.program_quiet.new.self a w c.args.at c.args.from.now stands closed built is.wide unlocked is.none is.some same
+    (c.in-Ok-None.ensures.skips (ap Ok c.in-Ok-None.field-0-is))
 
 pub returns-in-Ok-None-clause-asks : goal.returns-in-Ok-None-clause-asks
 returns-in-Ok-None-clause-asks g c =
