@@ -165,15 +165,15 @@ impl<W: BusWord, B: Bus<W>> Bank<W, B> {
     /// Programs the bytes of the bank from `at` on, one bus word after another in ascending order.
     /// `Done`: each is old AND new, and each other byte of the bank is as it was.
     ///
-    /// Bus words that wouldn't change are only read. The refusals are those of [`Bank::read`], and a
+    /// Where no byte would change, each bus word is only read. The refusals are those of [`Bank::read`], and a
     /// program of no bytes is `Done` without a cycle. `Failed` tells the bytes of the first bus word in
     /// which a chip broke off, as far as they lie in the range, and its lanes; the words before are
     /// done, and those behind are as they were. A first `Halted` comes only where a cycle failed, with
     /// the number of the armed cut, or where a lane was read working as often as its table allows; then
     /// each byte of the range has bits between what it was and what is programmed.
     ///
-    /// What it makes holds where no chip has a weak place, and no block of the range is locked. For each
-    /// bus word it asks for at most 10 cycles and twice the table's limit.
+    /// What it makes holds where no chip has a weak place, and no block of the range is locked. It asks for
+    /// at most 80 bus cycles, and for each bus word 10 and twice the table's limit.
     pub fn program(&mut self, caller: u8, at: u32, from: &[u8]) -> Reply
         ensures makes { (self.old).erase ≡ None → IsBuilt self.old → (a : ArrayState) → Stands self.old a → first_locked a (Program at from.now) ≡ None
             → MakesEntry self.old self.new (entry_of self.old self.new caller (Program at from.now) result []) a }

@@ -38,11 +38,12 @@ fn begin_word<W: BusWord, B: Bus<W>>(bus: &mut B, at: u32, new: W) -> Result<(),
 /// no error bit set and its array shown. The set tells the lanes that broke off, which are those that
 /// are weak there and would change: these hold bits between.
 ///
-/// It makes four writes, a fifth where a lane broke off, and one poll more than the slowest lane shows
-/// working; an armed cut comes as many cycles nearer. `Off` comes only where a cycle failed. `Stuck`
-/// names a lane that was read working `limit` times, and whose chip is stuck where a word takes fewer
-/// reads than that. After both, each lane's unit has bits between, and nothing else has changed but,
-/// after `Off`, a block under erase.
+/// It makes four writes, a fifth where a lane broke off, and, where no lane is stuck, one poll more than
+/// the slowest lane shows working; an armed cut comes as many cycles nearer. `Off` comes only where a
+/// cycle failed. `Stuck` comes after `limit` polls, and names a lane that the last of them told to work,
+/// whose chip is stuck where a word takes fewer reads than that. After both, each lane's unit has bits
+/// between; no other cell, no lock, no held erase and no counter has changed but, after `Off`, a block
+/// under erase.
 pub fn program_word<W: BusWord, B: Bus<W>>(
     bus: &mut B,
     g: Geometry,

@@ -86,8 +86,8 @@ pub fn end_program<W: BusWord, B: Bus<W>>(bus: &mut B, broken: LaneSet) -> Resul
 ///
 /// What it does to a lane holds where the lane's chip is of set 0002, at rest, and runs no job, and
 /// shows its array or its query table or has broken off; where the lanes are in an erase makes no
-/// difference. `Off` comes only where a cycle failed, and leaves every such chip as it was, but for a
-/// block under erase.
+/// difference. `Off` comes only where a cycle failed, and leaves the cells, locks, held erase and
+/// counters of every such chip, but for a block under erase.
 pub fn settle<W: BusWord, B: Bus<W>>(bus: &mut B, _g: Geometry, _lanes: Lanes) -> Result<(), Off>
     ensures lanes { OnOk result (EachLane (Settles Amd) (B.state bus.old) (B.state bus.new)) }
     ensures loses { OnErr result (EachLane (LosesNone Amd) (B.state bus.old) (B.state bus.new)) }

@@ -5,7 +5,7 @@
 //! programs a bus word and tells which lanes broke off; `settle` clears a broken job and lets every
 //! lane show its array. A call asks for no more cycles than its clause says, whatever the chips are,
 //! and is given up where a cycle fails, or where a lane works for ever; then what each lane holds is
-//! bounded by `Loses` of nor_poll.
+//! bounded by `Loses` of nor_poll, or by `Tears` where power stayed on.
 //!
 //! A bank of one lane is polled by the word that it programs, a bank of more by what toggles. It works
 //! over any bus, and stands on nor_poll for the polls and on nor_bus for the cycles.

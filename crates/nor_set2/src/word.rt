@@ -8,7 +8,7 @@ ghost use Rattle.nor_bus.specs.Driven.{IsOwn, Went, Lost, AllLanes};
 ghost use Rattle.nor_poll.specs.Counted.{Counted};
 ghost use Rattle.nor_poll.specs.Word.{BeginsWord, ProgramsWord, TellsBroken, EndsWithin, LosesWord, WordHalts};
 ghost use Rattle.nor_poll.specs.Words.{EachPart};
-ghost use Rattle.nor_set2.specs.Polls.{PollsWord};
+ghost use Rattle.nor_set2.specs.Polls.{PollsWord, polling_for};
 
 use crate::command::{PROGRAM, end_program, first_address, unlock};
 use nor_bus::{Bus, Off, write_code, write_word};
@@ -33,7 +33,8 @@ fn begin_word<W: BusWord, B: Bus<W>>(bus: &mut B, g: Geometry, at: u32, new: W) 
 
 // How a program of the word is polled.
 fn polling_of<W: BusWord>(g: Geometry, new: W) -> Polling<W>
-    ensures { PollsWord new result }
+    ensures lanes { result ≡ polling_for g new }
+    ensures word { PollsWord new result }
 {
     if g.lanes == 1 {
         Polling::Data(new)
@@ -52,11 +53,13 @@ fn polling_of<W: BusWord>(g: Geometry, new: W) -> Polling<W>
 /// set tells the lanes that broke off, which are those that are weak there and would change: these hold
 /// bits between.
 ///
-/// It makes four writes, a fifth where a lane broke off, and at most three reads more than the slowest
-/// lane shows working; an armed cut comes as many cycles nearer. `Off` comes only where a cycle failed.
-/// `Stuck` names a lane that was told to work by `limit` polls, of two reads each, and whose chip is
-/// stuck where a word takes fewer reads than `limit`. After both, each lane's unit has bits between,
-/// and nothing else has changed but, after `Off`, a block under erase.
+/// A bank of one lane is polled by its word, others by what toggles. It makes four writes, a fifth where
+/// a lane broke off, and at most three reads more than the slowest lane shows working, where no lane is
+/// stuck; an armed cut comes as many cycles nearer. `Off` comes only where a cycle failed. `Stuck` comes
+/// after `limit` polls of two reads each, and names a lane that the last of them told to work, whose
+/// chip is stuck where a word takes fewer reads than `limit`. After both, each lane's unit has bits
+/// between; no other cell, no lock, no held erase and no counter has changed but, after `Off`, a block
+/// under erase.
 pub fn program_word<W: BusWord, B: Bus<W>>(
     bus: &mut B,
     g: Geometry,

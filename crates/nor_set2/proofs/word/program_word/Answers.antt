@@ -30,11 +30,11 @@ returns-in_err-watch-clause-halts g c =
     let last = g.B.Bus.state c.wait_ready.new.bus in
     let word = g.W.BusWord.bytes c.args.new in
     let halt = c.in_err-watch.field-0.0 in
-    let fits = halts_fit c.args.new how c.args.limit c.polling_of.ensures in
+    let fits = halts_fit c.args.new how c.args.limit c.polling_of.ensures.word in
     if_gave c.from_residual-in_err-watch.result halt (WordHalts Amd width c.args.g c.args.at word c.args.limit old last) c.from_residual-in_err-watch.ensures.1
     (word_halts g.W.BusWord.bytes how Amd width c.args.at c.args.limit 4 c.args.g word old mid last halt fits.0 fits.1 c.in_ok-begin_word.ensures.went c.in_ok-begin_word.ensures.begins
     (λ own within k below takes.
-    answers_begun g.W.BusWord.bytes c.args.new how c.args.at k (lane old k) (lane mid k) c.polling_of.ensures (c.in_ok-begin_word.ensures.begins own within k below) takes)
+    answers_begun g.W.BusWord.bytes c.args.new how c.args.at k (lane old k) (lane mid k) c.polling_of.ensures.word (c.in_ok-begin_word.ensures.begins own within k below) takes)
     c.begin_word.ensures.units c.in_err-watch.ensures.halts)
 
 pub returns-clause-done : goal.returns-clause-done
@@ -50,7 +50,7 @@ returns-clause-done g c = λ own within k below.
     word_done Amd c.args.at v c.broken_lanes-broken.result.bits k (lane old k) (lane mid k) (lane last k) (lane new k) (seen_at c.in_ok-watch.watch.lanes k) begins
     (λ takes.
     c.in_ok-watch.ensures.ready (own_kept g.W.BusWord.WIDTH c.args.g old mid c.in_ok-begin_word.ensures.went.kept own) (subst (λ (n : ℕ). c.args.at < n) (sym c.begin_word.ensures.units) within) k there
-    (answers_begun g.W.BusWord.bytes c.args.new c.polling_of.result c.args.at k (lane old k) (lane mid k) c.polling_of.ensures begins takes))
+    (answers_begun g.W.BusWord.bytes c.args.new c.polling_of.result c.args.at k (lane old k) (lane mid k) c.polling_of.ensures.word begins takes))
     (c.broken_lanes-broken.ensures.lanes k (omega (arith, few, below)))
     (c.in_ok-end_program.ensures.lanes k (moved mid last k c.in_ok-watch.ensures.went.went.kept.count there))
 
@@ -66,7 +66,7 @@ returns-clause-set g c = λ own within k below.
     (λ takes.
     c.in_ok-watch.ensures.ready (own_kept g.W.BusWord.WIDTH c.args.g old mid c.in_ok-begin_word.ensures.went.kept own) (subst (λ (n : ℕ). c.args.at < n) (sym c.begin_word.ensures.units) within) k
     (moved old mid k c.in_ok-begin_word.ensures.went.kept.count below)
-    (answers_begun g.W.BusWord.bytes c.args.new c.polling_of.result c.args.at k (lane old k) (lane mid k) c.polling_of.ensures begins takes))
+    (answers_begun g.W.BusWord.bytes c.args.new c.polling_of.result c.args.at k (lane old k) (lane mid k) c.polling_of.ensures.word begins takes))
     (c.broken_lanes-broken.ensures.lanes k (omega (arith, few, below)))
 
 pub returns-clause-past : goal.returns-clause-past
@@ -76,7 +76,7 @@ returns-clause-past g c = λ k le.
 pub returns-clause-went : goal.returns-clause-went
 returns-clause-went g c =
     let how = c.polling_of.result in
-    let most = polls_most c.args.new how c.args.limit c.polling_of.ensures in
+    let most = polls_most c.args.new how c.args.limit c.polling_of.ensures.word in
     counted_word 4 1 (2 * c.args.limit + 1) (wait_most how c.args.limit) (min c.broken_lanes-broken.result.bits 1) 5 (2 * c.args.limit + 6) (g.B.Bus.state c.args.bus.now)
     (g.B.Bus.state c.begin_word.new.bus) (g.B.Bus.state c.wait_ready.new.bus) (g.B.Bus.state c.end_program.new.bus) (omega arith) (omega arith) (sym most) c.in_ok-begin_word.ensures.went
     c.in_ok-watch.ensures.went c.in_ok-end_program.ensures.went
@@ -96,9 +96,9 @@ returns-clause-prompt g c = λ own within most ends.
     c.in_ok-watch.ensures.prompt (own_kept g.W.BusWord.WIDTH c.args.g old mid c.in_ok-begin_word.ensures.went.kept own) (subst (λ (n : ℕ). c.args.at < n) (sym c.begin_word.ensures.units) within)
     (λ k there.
     let below = subst (λ (m : ℕ). k < m) count there in
-    answers_begun g.W.BusWord.bytes c.args.new how c.args.at k (lane old k) (lane mid k) c.polling_of.ensures (begins k below) (ends k below).takes)
+    answers_begun g.W.BusWord.bytes c.args.new how c.args.at k (lane old k) (lane mid k) c.polling_of.ensures.word (begins k below) (ends k below).takes)
     most (all_work_for Amd c.args.at most word old mid count begins ends) in
-    counted_word 4 1 (most + 3) (wait_prompt how most) (min bits 1) 5 (most + 7 + min bits 1) old mid last new (omega arith) (omega arith) (sym (polls_prompt c.args.new how most c.polling_of.ensures))
+    counted_word 4 1 (most + 3) (wait_prompt how most) (min bits 1) 5 (most + 7 + min bits 1) old mid last new (omega arith) (omega arith) (sym (polls_prompt c.args.new how most c.polling_of.ensures.word))
     c.in_ok-begin_word.ensures.went polls c.in_ok-end_program.ensures.went
 
 pub returns-in_err-end_program-clause-halts : goal.returns-in_err-end_program-clause-halts
@@ -108,7 +108,7 @@ returns-in_err-end_program-clause-halts g c =
     let mid = g.B.Bus.state c.begin_word.new.bus in
     let last = g.B.Bus.state c.wait_ready.new.bus in
     let new = g.B.Bus.state c.end_program.new.bus in
-    let most = polls_most c.args.new how c.args.limit c.polling_of.ensures in
+    let most = polls_most c.args.new how c.args.limit c.polling_of.ensures.word in
     if_gave c.from_residual-in_err-end_program.result Off (WordHalts Amd g.W.BusWord.WIDTH c.args.g c.args.at (g.W.BusWord.bytes c.args.new) c.args.limit old new)
     c.from_residual-in_err-end_program.ensures.1 (
       lost_then 4 4 (2 * c.args.limit + 2) (2 * c.args.limit + 6) old mid new (omega arith) c.in_ok-begin_word.ensures.went
@@ -120,6 +120,6 @@ returns-in_err-end_program-clause-halts g c =
           loses_ended Amd c.args.at v (lane old k) (lane mid k) (lane last k) (lane new k) (seen_at c.in_ok-watch.watch.lanes k) begins
           (λ takes.
           c.in_ok-watch.ensures.ready (own_kept g.W.BusWord.WIDTH c.args.g old mid c.in_ok-begin_word.ensures.went.kept own) (subst (λ (n : ℕ). c.args.at < n) (sym c.begin_word.ensures.units) within) k
-          there (answers_begun g.W.BusWord.bytes c.args.new how c.args.at k (lane old k) (lane mid k) c.polling_of.ensures begins takes))
+          there (answers_begun g.W.BusWord.bytes c.args.new how c.args.at k (lane old k) (lane mid k) c.polling_of.ensures.word begins takes))
           (c.in_err-end_program.ensures.loses k (moved mid last k c.in_ok-watch.ensures.went.went.kept.count there)),
     )
