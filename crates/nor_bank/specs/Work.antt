@@ -1,5 +1,5 @@
 -- What a call asks of the bus, and what it leaves as it was.
-use Rattle.std.specs.Prelude.{◌≡◌, ◌≢◌, ◌<◌, ◌≤◌, ◌+◌, ℕ, List, [], ◌∷◌, false, nat_lt, Option, Some, None}
+use Rattle.std.specs.Prelude.{◌≡◌, ◌≢◌, ◌<◌, ◌≤◌, ◌+◌, ℕ, List, [], ◌∷◌, length, nat_lt, Option, Some, None}
 use Rattle.std.specs.Option.{option_or, option_map}
 use Rattle.nor_bus.specs.Bus.{BusState}
 use Rattle.nor_cell.specs.declared.device.Set.TheVariants.{Intel}
@@ -9,8 +9,11 @@ use Rattle.nor_array.specs.Refusals.{when, first_some}
 use Rattle.nor_array.specs.declared.entry.Halted.{Halted as HaltCause}
 use Rattle.nor_array.specs.declared.entry.Halted.TheVariants.{Off, Stuck}
 use Rattle.nor_array.specs.declared.entry.Reply.{Reply}
-use Rattle.nor_array.specs.declared.entry.Reply.TheVariants.{Done, Opened, Erased, Bit, OutOfRange, TooLong, Busy, Occupied, Locked, NoLocks, Nothing, NotYet, Failed, Halted}
-use Rattle.nor_bank.specs.Programs.{IsSound}
+use Rattle.nor_array.specs.declared.entry.Reply.TheVariants.{OutOfRange, TooLong, Halted}
+use Rattle.nor_cell.specs.declared.device.Work.TheVariants.{Word}
+use Rattle.nor_query.specs.Derived.{limit_of}
+use Rattle.nor_poll.specs.declared.lanes.Halt.{Halt}
+use Rattle.nor_bank.specs.Programs.{CanProgram, ProgramsTo, LeavesBy, IsSound}
 use Rattle.nor_bank.specs.State.{BankState, size_of}
 
 -- At most so many cycles were asked for, the one that failed among them.
@@ -50,3 +53,26 @@ pub record Keeps (old new : BankState) (reply : Reply) : Type 0 where
 pub record IsBuilt (b : BankState) : Type 0 where
   pub set : b.found.query.set ≡ Intel
   pub sound : AllLanes IsSound b.bus
+
+-- how often a word may be read working
+abbrev pub word_limit : BankState → ℕ
+word_limit b = limit_of b.found.query.times Word
+
+-- ---- programs of a bank whose chips can be programmed
+
+abbrev pub CanProgramIn : (width : ℕ) (b : BankState) (at : ℕ) (new : List ℕ) → Type 0
+CanProgramIn width b at new = CanProgram width b.found.geometry (word_limit b) at (length new) b.bus
+
+-- all of the range was programmed
+abbrev pub ProgramsRange : (width : ℕ) (old : BankState) (at : ℕ) (new : List ℕ) → BankState → Type 0
+ProgramsRange width old at new now =
+    CanProgramIn width old at new → AllLanes IsSound old.bus → ProgramsTo old.found.geometry.device at new (at + length new) old.bus now.bus
+
+-- no lane breaks off where none is weak
+abbrev pub NotBroken : (width : ℕ) (old : BankState) (at : ℕ) (new : List ℕ) → Type 0
+NotBroken width old at new = CanProgramIn width old at new → AllLanes IsSound old.bus → ⊥
+
+-- it was given up
+abbrev pub LeavesRange : (width : ℕ) (old : BankState) (at : ℕ) (new : List ℕ) → Halt → BankState → Type 0
+LeavesRange width old at new halt now =
+    CanProgramIn width old at new → AllLanes IsSound old.bus → LeavesBy old.found.geometry.device at new at halt old.bus now.bus
