@@ -1,6 +1,7 @@
 -- What running the lines of a script makes of a bank.
-use Rattle.std.specs.Prelude.{◌≡◌, ℕ, List, length, take, Bool, true, false, Option, None, Result, Ok, Err}
+use Rattle.std.specs.Prelude.{◌≡◌, ℕ, List, length, take, map, Bool, true, false, Option, None, Result, Ok, Err}
 use Rattle.std.specs.List.{list_any}
+use Rattle.nor_cell.specs.Chip.{ChipState}
 use Rattle.nor_bus.specs.Cycles.{KeepsLanes}
 use Rattle.nor_bus.specs.Driven.{EachLane}
 use Rattle.nor_array.specs.Array.{ArrayState, is_locked}
@@ -15,7 +16,7 @@ use Rattle.nor_io.specs.declared.sink.SinkError.{SinkError}
 use Rattle.nor_io.specs.declared.sink.SinkError.TheVariants.{Fault, NoMemory}
 use Rattle.nor_script.specs.Answering.{IsOf, AnswersRun}
 use Rattle.nor_script.specs.Puts.{Taken}
-use Rattle.nor_script.specs.Report.{entry_line, entry_lines}
+use Rattle.nor_script.specs.Report.{entry_line, entry_lines, report_text}
 use Rattle.nor_script.specs.declared.line.Line.{Line}
 use Rattle.nor_script.specs.declared.line.Word.{Word}
 use Rattle.nor_script.specs.declared.line.Word.TheVariants.{Call, Erase}
@@ -96,3 +97,24 @@ pub record RunsPart (lines : List Line) (old new : BankState) (a : ArrayState) (
   pub count : ℕ
   pub is : IsHistoryOf (take count lines) old new a history
   pub text : AppendsPart before (entry_lines 0 history) after
+
+-- ---- with the chips' counters at the end
+
+-- how often an erase was suspended on each lane, and how many erases there were
+abbrev pub counters_of : List ChipState → List (ℕ × ℕ)
+counters_of chips = map (λ (s : ChipState). (s.suspends, s.erases)) chips
+
+-- All lines were run, and the report put.
+pub record ReportsWhole (lines : List Line) (old new : BankState) (a : ArrayState) (before after : Option (List ℕ)) (ran : Ran) : Type 0 where
+  pub history : List Entry
+  pub is : IsHistoryOf lines old new a history
+  pub text : Appends before (report_text history (counters_of new.bus.lanes)) after
+  pub entries : ran.entries ≡ length history
+  pub halted : ran.halted ≡ has_halt history
+
+-- The first lines were run, and the report of their history wasn't put whole.
+pub record ReportsPart (lines : List Line) (old new : BankState) (a : ArrayState) (before after : Option (List ℕ)) : Type 0 where
+  pub history : List Entry
+  pub count : ℕ
+  pub is : IsHistoryOf (take count lines) old new a history
+  pub text : AppendsPart before (report_text history (counters_of new.bus.lanes)) after
