@@ -54,7 +54,7 @@ lasts_self b a stands = λ c below. record {
 pub keeps_self : (b : BankState) → KeepsBank b b
 keeps_self b = record {
   found = refl;
-  erase = refl;
+  erase = λ closed. closed;
   lanes = record { count = refl; each = λ c below. record { part = refl; size = refl; locks = refl; bytes = λ small. small } };
 }
 

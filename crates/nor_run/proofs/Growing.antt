@@ -104,7 +104,7 @@ same_facts old new keeps =
 pub keeps_bank_then : (x y z : BankState) → KeepsBank x y → KeepsBank y z → KeepsBank x z
 keeps_bank_then x y z first next = record {
   found = next.found ∙ first.found;
-  erase = next.erase ∙ first.erase;
+  erase = λ closed. next.erase (first.erase closed);
   lanes = keeps_then x.bus y.bus z.bus first.lanes next.lanes;
 }
 
@@ -122,12 +122,9 @@ lasts_then x y z keeps first next = λ c below.
     }
 
 still_built : (old new : BankState) → KeepsBank old new → IsBuilt old → IsBuilt new
-still_built old new keeps built = record {
-  set = ap (λ (f : Found). f.query.set) keeps.found ∙ built.set;
-  sound = λ c below.
-      let there : c < lanes_of old.bus = subst (λ (n : ℕ). c < n) keeps.lanes.count below in
-      ap (λ (p : Part). p.weak) (keeps.lanes.each c there).part ∙ built.sound c there;
-}
+still_built old new keeps built c below =
+    let there : c < lanes_of old.bus = subst (λ (n : ℕ). c < n) keeps.lanes.count below in
+    ap (λ (p : Part). p.weak) (keeps.lanes.each c there).part ∙ built c there
 
 -- ---- a read or a program changes no lock
 
@@ -250,7 +247,7 @@ line_more lines n line op old now new a before mid after f g ran reply below at 
       halted = (λ i. so.halted i || is_halt (runs.puts.0 i)) ∙ sym (halt_last so.history e);
       can = record {
         stands = subst (λ (x : ArrayState). Stands new x) (sym (after_last a so.history e)) runs.makes.stands;
-        closed = next.erase ∙ so.can.closed;
+        closed = next.erase so.can.closed;
         built = still_built now new next so.can.built;
         unlocked = subst (λ (x : ArrayState). (k : ℕ) → is_locked x k ≡ false) (sym (after_last a so.history e))
             (still_unlocked (after_all a so.history) e (ap is_built_call runs.is.calls ∙ built) so.can.unlocked);

@@ -7,7 +7,6 @@ use Rattle.nor_io.specs.declared.sink.SinkError.TheVariants.{Fault, NoMemory}
 use Rattle.nor_io.proofs.Pieces.{Appends-append, AppendsPart-append, AppendsPart-more}
 use Rattle.nor_cell.specs.Chip.{ChipState}
 use Rattle.nor_cell.specs.Ranges.{IsChip}
-use Rattle.nor_cell.specs.Table.{set_of}
 use Rattle.nor_cell.specs.declared.device.Device.{Device}
 use Rattle.nor_cell.specs.declared.device.Set.{Set}
 use Rattle.nor_cell.specs.declared.device.Set.TheVariants.{Intel, Amd}
@@ -41,7 +40,7 @@ use Rattle.nor_bank.proofs.Known.{known_parts, known_some}
 use Rattle.nor_image.specs.Image.{IsImageOf}
 use Rattle.nor_image.specs.Written.{file_of, AreStorable, Stores}
 use Rattle.nor_cell.specs.Power.{powered}
-use Rattle.nor_run.specs.Built.{is_intel, is_sound, is_built_bank}
+use Rattle.nor_run.specs.Built.{is_sound, is_built_bank}
 use Rattle.nor_run.specs.Running.{CanRun, KeepsBank, IsHistoryOf, RunsWhole, RunsPart, ReportsWhole, ReportsPart, counters_of}
 use Rattle.nor_run.specs.Scripts.{IsJustLoaded, ShowsQry, RunsImage, started, opening_of, HoldsBytes, RunsLegally, RunsScript, RunsPartly, EndsRun, Reports}
 use Rattle.nor_run.specs.Started.{of_put, EndsStarted, ReportsStarted}
@@ -144,10 +143,6 @@ and_parts : (x y : Bool) → (x && y) ≡ true → (x ≡ true) × (y ≡ true)
 and_parts true y is = (refl, is)
 and_parts false y is = absurd cc
 
-intel_is : (set : Set) → is_intel set ≡ true → set ≡ Intel
-intel_is Intel is = refl
-intel_is Amd is = absurd cc
-
 no_weak : (xs : List ℕ) → (length xs == 0) ≡ true → xs ≡ []
 no_weak [] is = refl
 no_weak (x ∷ xs) is = absurd (not_zero (length xs) is)
@@ -169,14 +164,10 @@ can_run width bus b is built none =
     let some = known_some b.found b.bus known in
     let first = known_parts b.found b.bus known 0 some in
     let here : is_built_bank b.bus.lanes ≡ true = ap (λ (chips : List ChipState). is_built_bank chips) is.lanes ∙ built in
-    let parts = and_parts (is_intel (set_of (chip_at b.bus.lanes 0).part.table)) (list_all is_sound b.bus.lanes) here in
     record {
       stands = is.stands;
       closed = is.erase;
-      built = record {
-        set = sym first.set ∙ ((known.wired.chips 0 some).set ∙ intel_is (set_of (lane b.bus 0).part.table) parts.0);
-        sound = all_sound b.bus.lanes parts.1;
-      };
+      built = all_sound b.bus.lanes here;
       unlocked = first.unlocked none;
     }
 
@@ -190,7 +181,7 @@ under_none o consts p is = ap (λ (x : Option OpenErase). is_under x consts p) i
 
 holds_bytes : (b new : BankState) (a : ArrayState) → b.erase ≡ None → KeepsBank b new → Stands new a → HoldsBytes b.found new.bus a
 holds_bytes b new a closed keeps stands =
-    let none : a.under ≡ None = stands.under ∙ ap under_of (keeps.erase ∙ closed) in
+    let none : a.under ≡ None = stands.under ∙ ap under_of (keeps.erase closed) in
     record {
       size = stands.size ∙ size_is new stands.known;
       bytes = λ p below.

@@ -2,10 +2,6 @@
 use Rattle.std.specs.Prelude.{List, length, Bool, true, false, not, ◌==◌, ◌&&◌}
 use Rattle.std.specs.List.{list_all}
 use Rattle.nor_cell.specs.Chip.{ChipState}
-use Rattle.nor_cell.specs.Table.{set_of}
-use Rattle.nor_cell.specs.declared.device.Set.{Set}
-use Rattle.nor_cell.specs.declared.device.Set.TheVariants.{Intel, Amd}
-use Rattle.nor_bus.specs.Bus.{chip_at}
 use Rattle.nor_array.specs.declared.entry.Op.{Op}
 use Rattle.nor_array.specs.declared.entry.Op.TheVariants.{Read, Program, EraseOpen, Poll, Lock, Unlock, IsLocked, Arm, PowerOn}
 use Rattle.nor_script.specs.declared.line.Line.{Line}
@@ -32,14 +28,10 @@ is_built_word (Erase b) = false
 abbrev pub are_built : List Line → Bool
 are_built lines = list_all (λ line. is_built_word line.word) lines
 
-abbrev pub is_intel : Set → Bool
-is_intel Intel = true
-is_intel Amd = false
-
 -- the chip has no weak place, and ends its work
 abbrev pub is_sound : ChipState → Bool
 is_sound s = (length s.part.weak == 0) && not s.part.stuck
 
--- Lane 0's table names set 0001, no chip has a weak place, and no lane is stuck.
+-- No chip has a weak place, and no lane is stuck.
 abbrev pub is_built_bank : List ChipState → Bool
-is_built_bank chips = is_intel (set_of (chip_at chips 0).part.table) && list_all is_sound chips
+is_built_bank chips = list_all is_sound chips

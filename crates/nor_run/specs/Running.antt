@@ -41,7 +41,7 @@ pub record CanRun (b : BankState) (a : ArrayState) : Type 0 where
 -- A call changes the bus, of which each chip stays what it is, and the halt that is kept.
 pub record KeepsBank (old new : BankState) : Type 0 where
   pub found : new.found ≡ old.found
-  pub erase : new.erase ≡ old.erase
+  pub erase : old.erase ≡ None → new.erase ≡ None
   pub lanes : KeepsLanes old.bus new.bus
 
 -- A text that tells a reply was put; or the sink failed, which its count tells, or lacked memory, and then a first part was.

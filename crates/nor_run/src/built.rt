@@ -4,12 +4,12 @@ ghost use Rattle.std.specs.List.{list_all};
 ghost use Rattle.nor_cell.specs.Ranges.{IsChip};
 ghost use Rattle.nor_bus.specs.Driven.{AllLanes};
 ghost use Rattle.nor_image.specs.Loaded.{bus_of};
-ghost use Rattle.nor_run.specs.Built.{is_built_word as is_word_built, are_built as all_are_built, is_intel as is_set_intel, is_sound as is_chip_sound, is_built_bank};
+ghost use Rattle.nor_run.specs.Built.{is_built_word as is_word_built, are_built as all_are_built, is_sound as is_chip_sound, is_built_bank};
 
 use crate::counters::lanes_of;
 use nor_array::Op;
 use nor_bus::SimBank;
-use nor_cell::{Chip, Set, set_of};
+use nor_cell::Chip;
 use nor_image::{Loaded, with_bank};
 use nor_script::{Line, Word};
 use nor_word::BusWord;
@@ -30,15 +30,6 @@ pub fn are_built(lines: &[Line]) -> bool
     lines.iter().all(|line| is_built_word(&line.word))
 }
 
-fn is_intel(set: Set) -> bool
-    ensures { result ≡ is_set_intel set }
-{
-    match set {
-        Set::Intel => true,
-        Set::Amd => false,
-    }
-}
-
 // Whether the chip has no weak place and ends its work.
 fn is_sound<C: Chip>(chip: &C) -> bool
     ensures sound { result ≡ is_chip_sound (C.state chip.now) }
@@ -54,9 +45,9 @@ fn both(first: bool, second: bool) -> bool
     first && second
 }
 
-// Whether all chips are so.
-fn are_sound<W: BusWord, C: Chip + Drop>(bank: &SimBank<W, C>) -> bool
-    ensures sound { result ≡ list_all is_chip_sound bank.now.lanes }
+/// Whether running is built for the chips of a bank: no chip has a weak place, and no lane is stuck.
+pub fn is_built_for<W: BusWord, C: Chip + Drop>(bank: &SimBank<W, C>) -> bool
+    ensures built { result ≡ is_built_bank bank.now.lanes }
     ensures ranges { AllLanes IsChip bank.now }
 {
     let mut sound = true;
@@ -66,19 +57,7 @@ fn are_sound<W: BusWord, C: Chip + Drop>(bank: &SimBank<W, C>) -> bool
     sound
 }
 
-/// Whether running is built for the chips of a bank: lane 0's table names set 0001, no chip has a weak
-/// place, and no lane is stuck.
-pub fn is_built_for<W: BusWord, C: Chip + Drop>(bank: &SimBank<W, C>) -> bool
-    ensures built { result ≡ is_built_bank bank.now.lanes }
-    ensures ranges { AllLanes IsChip bank.now }
-{
-    let sound = are_sound(bank);
-    let _lanes = lanes_of(bank);
-    is_intel(set_of(&bank.chip(0).cells().table)) && sound
-}
-
-/// Whether running is built for a bank that was loaded: its machine is set 0001, no chip has a weak
-/// place, and no lane is stuck.
+/// Whether running is built for a bank that was loaded: no chip has a weak place, and no lane is stuck.
 pub fn is_built(loaded: &Loaded) -> bool
     ensures { result ≡ is_built_bank (bus_of loaded.now).lanes }
 {

@@ -4,7 +4,7 @@ use Rattle.nor_cell.specs.Ranges.{IsChip}
 use Rattle.nor_bus.specs.Bus.{lane}
 use Rattle.nor_run.specs.Built.{is_sound}
 use Rattle.nor_run.proofs.Chips.{sound_more}
-use Rattle.nor_run.proofs.built.are_sound.Goals as goal
+use Rattle.nor_run.proofs.built.is_built_for.Goals as goal
 
 pub loop-lane-preserved : goal.loop-lane-preserved
 loop-lane-preserved g c = record {

@@ -3,7 +3,7 @@ use Rattle.std.specs.List.{list_all}
 use Rattle.nor_cell.specs.Ranges.{IsChip}
 use Rattle.nor_bus.specs.Bus.{lane as lane_state}
 use Rattle.nor_run.specs.Built.{is_sound}
-use Rattle.nor_run.proofs.built.are_sound.Given as goal
+use Rattle.nor_run.proofs.built.is_built_for.Given as goal
 
 abbrev pub invariant-loop-lane : goal.invariant-loop-lane
 invariant-loop-lane g l = record {
