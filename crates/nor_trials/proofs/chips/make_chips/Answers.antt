@@ -1,5 +1,5 @@
-use Rattle.std.proofs.Common.{◌≡◌, ◌++◌, ◌∷◌, [], List, length, map, subst, sym, ap, rules, ◌∙◌}
-use Rattle.std.proofs.lemmas.List.{map_push}
+use Rattle.std.proofs.Common.{◌≡◌, ◌++◌, ◌∷◌, [], List, length, map, subst, sym, ap, ◌+◌, ◌∙◌}
+use Rattle.std.proofs.lemmas.List.{length_push, map_push}
 use Rattle.std.proofs.lemmas.List.Elements.{All-push}
 use Rattle.std.specs.List.{All}
 use Rattle.nor_cell.specs.Chip.{ChipState}
@@ -17,7 +17,7 @@ loop-lane-preserved g c =
       size = c.made.ensures.size ∙ c.in_ok-cells_of.ensures.size;
     } in
     record {
-      count = ap (λ (xs : List ChipState). length xs) pushed ∙ search rules;
+      count = ap (λ (xs : List ChipState). length xs) pushed ∙ length_push before chip ∙ ap (λ n. n + 1) c.loop-lane.invariant.count;
       alike = subst (λ (xs : List ChipState). All (IsAlike c.args.setup.geometry.device) xs) (sym pushed)
           (All-push (IsAlike c.args.setup.geometry.device) before chip c.loop-lane.invariant.alike alike);
     }
