@@ -2,7 +2,7 @@
 ghost use Rattle.std.specs.Prelude.{IsTrue};
 ghost use Rattle.nor_cell.specs.Wiring.{is_wiring};
 
-use crate::chips::{Setup, WEAK_PLACE, make_amd_bank};
+use crate::chips::{Setup, WEAK_PLACE, make_bank};
 use crate::words::{LIMIT, NO_LANE, TWO_CHIPS, WIRINGS, counting, reads, with_bits};
 use nor_amd::Amd;
 use nor_bus::{Bus, SimBank, write_code, write_word};
@@ -50,7 +50,7 @@ fn tries<W: BusWord>(
         weak_lane: None,
         stuck_lane: None,
     };
-    let mut bank = make_amd_bank::<W>(rt, alloc, setup)?;
+    let mut bank = make_bank::<W, Amd>(rt, alloc, setup)?;
     let cycles = u64::from(pace) + if lanes == 1 { 5 } else { 6 };
     let exact = (cycles, cycles);
     programs(rt, &mut bank, geometry, 7, counting::<W>(0x70), exact);
@@ -113,7 +113,7 @@ fn goes_off_at_each<W: BusWord>(
         weak_lane: None,
         stuck_lane: None,
     };
-    let mut bank = make_amd_bank::<W>(rt, alloc, setup)?;
+    let mut bank = make_bank::<W, Amd>(rt, alloc, setup)?;
     let new = counting::<W>(0x30);
     for after in [0, 1, 2, 3] {
         goes_off(rt, &mut bank, geometry, after, W::splat(0xFF));
@@ -147,7 +147,7 @@ fn two_chips(
         weak_lane,
         stuck_lane,
     };
-    make_amd_bank::<u32>(rt, alloc, setup)
+    make_bank::<u32, Amd>(rt, alloc, setup)
 }
 
 #[test]

@@ -1,24 +1,34 @@
-//! Banks of set 0001 that halt, by a loss of power or a stuck lane, and banks with a weak lane.
+//! Banks of both sets that halt, by a loss of power or a stuck lane.
+ghost use Rattle.std.specs.Prelude.{IsTrue};
+ghost use Rattle.nor_cell.specs.Wiring.{is_wiring};
 
-use crate::chips::{Setup, make_bank};
+use crate::chips::{Made, Setup, make_bank};
 use crate::held::{Held, start, start_on};
+use nor_amd::Amd;
 use nor_array::{Halted, Op, Reply, make_bytes};
 use nor_bank::Bank;
 use nor_bus::{Bus, SimBank, read_word};
-use nor_cell::Device::X16;
-use nor_cell::Geometry;
+use nor_cell::Device::{X16, X16Byte};
+use nor_cell::{Geometry, Set};
 use nor_intel::Intel;
 use nor_probe::ProbeError;
+use nor_word::BusWord;
 use std::alloc::Global;
 use std::process::Abort;
 use std::test::Fail;
 
-type Chips = SimBank<u32, Intel>;
+// One chip on a word of one byte.
+const ONE_CHIP: Setup = Setup {
+    geometry: Geometry {
+        lanes: 1,
+        device: X16Byte,
+    },
+    pace: 2,
+    weak_lane: None,
+    stuck_lane: None,
+};
 
-type TwoChips = Bank<u32, Chips>;
-
-// Two chips of 8 KiB on a word of four bytes. A word that changes takes eight cycles: the read of the
-// old one, three writes, three polls, and one write.
+// Two chips of 8 KiB on a word of four bytes.
 const TWO_CHIPS: Setup = Setup {
     geometry: Geometry {
         lanes: 2,
@@ -38,38 +48,55 @@ const OFF: Halted = Halted::Off { after: 0 };
 const ZEROS: [u8; 4097] = [0; 4097];
 
 // How many cycles starting the bank takes.
-fn cycles_of_start(rt: &impl Abort, alloc: Global) -> Result<u32, Fail> {
-    let bus = start::<u32>(rt, alloc, TWO_CHIPS)?.stop();
+fn cycles_of_start<W: BusWord, C: Made>(
+    rt: &impl Abort,
+    alloc: Global,
+    setup: Setup,
+) -> Result<u32, Fail>
+    requires { IsTrue (is_wiring W.WIDTH setup.geometry.lanes setup.geometry.device) }
+{
+    let bus = start::<W, C>(rt, alloc, setup)?.stop();
     let cycles = u32::try_from(bus.cycles())?;
     Ok(cycles)
 }
 
 // A bank that was started, whose power goes after so many more cycles.
-fn armed_bank(rt: &impl Abort, alloc: Global, after: u32) -> Result<TwoChips, Fail> {
-    let cycles = cycles_of_start(rt, alloc)?.wrapping_add(after);
-    let mut bus = make_bank::<u32>(rt, alloc, TWO_CHIPS)?;
+fn armed_bank<W: BusWord, C: Made>(
+    rt: &impl Abort,
+    alloc: Global,
+    setup: Setup,
+    after: u32,
+) -> Result<Bank<W, SimBank<W, C>>, Fail>
+    requires { IsTrue (is_wiring W.WIDTH setup.geometry.lanes setup.geometry.device) }
+{
+    let cycles = cycles_of_start::<W, C>(rt, alloc, setup)?.wrapping_add(after);
+    let mut bus = make_bank::<W, C>(rt, alloc, setup)?;
     assert!(rt; bus.is_on());
     bus.arm(cycles, MASK);
-    start_on::<u32, Chips>(rt, bus)
+    start_on::<W, SimBank<W, C>>(rt, bus)
 }
 
-// What a halted bank answers, by place and length, to reads and programs alike.
-fn rows(halt: Halted) -> [(u32, u32, Reply); 7] {
+// What a halted bank of so many bytes answers, by place and length, to reads and programs alike.
+fn rows(halt: Halted, size: u32) -> [(u32, u32, Reply); 7] {
     [
         (0, 4, Reply::Halted(halt)),
         (0, 4096, Reply::Halted(halt)),
         (0, 0, Reply::Halted(halt)),
-        (0x4000, 0, Reply::Halted(halt)),
-        (0x4001, 0, Reply::OutOfRange),
-        (0x4000, 1, Reply::OutOfRange),
+        (size, 0, Reply::Halted(halt)),
+        (size.saturating_add(1), 0, Reply::OutOfRange),
+        (size, 1, Reply::OutOfRange),
         (0, 4097, Reply::TooLong),
     ]
 }
 
-// The halt is answered again, and each answer of it makes so many cycles, which fail.
-fn stays_halted(rt: &impl Abort, bank: &mut TwoChips, halt: Halted, tries: u64) {
+// The halt is answered again. After a loss of power each answer of it makes a cycle, which fails.
+fn stays_halted<W: BusWord, B: Bus<W>>(rt: &impl Abort, bank: &mut Bank<W, B>, halt: Halted) {
     let cycles = bank.bus().cycles();
-    for (at, len, reply) in rows(halt) {
+    let tries = match halt {
+        Halted::Off { .. } => 2,
+        _ => 0,
+    };
+    for (at, len, reply) in rows(halt, bank.size()) {
         let mut into = [0xA5; 4097];
         if let (Some(into), Some(new)) = (into.get_mut(..len as usize), ZEROS.get(..len as usize)) {
             let failed = bank.bus().failed();
@@ -77,7 +104,7 @@ fn stays_halted(rt: &impl Abort, bank: &mut TwoChips, halt: Halted, tries: u64) 
             assert_eq!(rt; bank.program(3, at, new), reply, "{at} {len}");
             let made = bank.bus().failed().wrapping_sub(failed);
             let tried = if reply == Reply::Halted(halt) {
-                2 * tries
+                tries
             } else {
                 0
             };
@@ -95,7 +122,8 @@ fn admits_halted(
     held: &mut Held,
     halt: Halted,
 ) -> Result<(), Fail> {
-    for (at, len, reply) in rows(halt) {
+    let size = u32::try_from(held.bytes().len())?;
+    for (at, len, reply) in rows(halt, size) {
         held.enters(rt, 2, Op::Read { at, len }, reply, Vec::new(alloc));
         if let Some(new) = ZEROS.get(..len as usize) {
             let new = make_bytes(alloc, new)?;
@@ -105,102 +133,184 @@ fn admits_halted(
     Ok(())
 }
 
-// The first eight bytes of the bank, from its bus.
-fn first_eight(alloc: Global, bus: &mut Chips) -> Result<Vec<u8>, Fail> {
+// The first two bus words of the bank, from its bus.
+fn first_words<W: BusWord, B: Bus<W>>(alloc: Global, bus: &mut B) -> Result<Vec<u8>, Fail> {
     let mut bytes = Vec::new(alloc);
     for u in 0..2 {
-        let Ok(word) = read_word::<u32, Chips>(bus, u) else {
+        let Ok(word) = read_word::<W, B>(bus, u) else {
             return Err("no power")?;
         };
-        bytes.extend_from_slice(&word.to_le_bytes())?;
+        for k in 0..W::WIDTH {
+            bytes.push(word.byte(k))?;
+        }
     }
     Ok(bytes)
 }
 
-// A program of zeros over two words meets a cut after so many cycles. Its range has these bytes
-// afterwards.
-fn halts_in_a_program(
+// Power comes back to a bank that was halted by its loss in one call.
+fn comes_back<W: BusWord, B: Bus<W>>(
     rt: &impl Abort,
     alloc: Global,
-    after: u32,
-    left: [u8; 4],
+    held: &mut Held,
+    bus: &mut B,
+    op: Op,
+    left: Vec<u8>,
 ) -> Result<(), Fail> {
-    let mut bank = armed_bank(rt, alloc, after)?;
-    let opened = Held::ones(rt, alloc, bank.found());
-    assert_eq!(rt; bank.program(1, 2, &[0; 4]), Reply::Halted(OFF));
-    stays_halted(rt, &mut bank, OFF, 1);
-    let mut bus = bank.stop();
-    let mut held = opened?;
-    assert!(rt; !bus.is_on());
-    bus.power_on();
-    let bytes = first_eight(alloc, &mut bus)?;
-    assert_eq!(rt; bytes.get(2..6), Some(left.as_slice()), "{after}");
     let arm = Op::Arm {
         after: 0,
         mask: MASK,
     };
     held.enters(rt, 0, arm, Reply::Done, Vec::new(alloc));
-    let new = make_bytes(alloc, &[0; 4])?;
-    let left = left.to_vec(alloc)?;
-    held.enters(rt, 1, Op::Program { at: 2, new }, Reply::Halted(OFF), left);
-    admits_halted(rt, alloc, &mut held, OFF)?;
+    held.enters(rt, 1, op, Reply::Halted(OFF), left);
+    admits_halted(rt, alloc, held, OFF)?;
     held.enters(rt, 0, Op::PowerOn, Reply::Done, Vec::new(alloc));
-    held.is_in(rt, &mut bus);
+    held.is_in::<W, B>(rt, bus);
+    Ok(())
+}
+
+// A program of zeros, of the last byte of a bus word and the first of the next, meets a cut after so
+// many cycles. These bytes are left there, and the others are as they were.
+fn halts_in_a_program<W: BusWord, C: Made>(
+    rt: &impl Abort,
+    alloc: Global,
+    setup: Setup,
+    after: u32,
+    left: [u8; 2],
+) -> Result<(), Fail>
+    requires { IsTrue (is_wiring W.WIDTH setup.geometry.lanes setup.geometry.device) }
+{
+    let mut bank = armed_bank::<W, C>(rt, alloc, setup, after)?;
+    let at = u32::from(W::WIDTH).saturating_sub(1);
+    let opened = Held::ones(rt, alloc, bank.found());
+    assert_eq!(rt; bank.program(1, at, &[0; 2]), Reply::Halted(OFF), "{after}");
+    stays_halted(rt, &mut bank, OFF);
+    let mut bus = bank.stop();
+    let mut held = opened?;
+    assert!(rt; !bus.is_on());
+    bus.power_on();
+    let words = first_words::<W, SimBank<W, C>>(alloc, &mut bus)?;
+    let range = words.get(at as usize..W::WIDTH as usize + 1);
+    assert_eq!(rt; range, Some(left.as_slice()), "{after}");
+    let new = make_bytes(alloc, &[0; 2])?;
+    let left = left.to_vec(alloc)?;
+    comes_back::<W, SimBank<W, C>>(
+        rt,
+        alloc,
+        &mut held,
+        &mut bus,
+        Op::Program { at, new },
+        left,
+    )
+}
+
+// From how many cycles on a cut leaves what, and the first number of cycles in which the call is done.
+type Cuts = ([(u32, [u8; 2]); 5], u32);
+
+// A word takes eight cycles: the read of the old one, three writes, three polls, and one write.
+const INTEL_CUTS: Cuts = (
+    [
+        (0, [0xFF, 0xFF]),
+        (4, [0x0F, 0xFF]),
+        (7, [0, 0xFF]),
+        (12, [0, 0x0F]),
+        (15, [0, 0]),
+    ],
+    16,
+);
+
+// A word takes nine cycles: the read of the old one, four writes, and two polls of two reads.
+const AMD_CUTS: Cuts = (
+    [
+        (0, [0xFF, 0xFF]),
+        (5, [0x0F, 0xFF]),
+        (8, [0, 0xFF]),
+        (14, [0, 0x0F]),
+        (17, [0, 0]),
+    ],
+    18,
+);
+
+// One lane takes one read less, so that none is left behind the end of its work.
+const AMD_LANE_CUTS: Cuts = (
+    [
+        (0, [0xFF, 0xFF]),
+        (5, [0x0F, 0xFF]),
+        (8, [0, 0xFF]),
+        (13, [0, 0x0F]),
+        (16, [0, 0]),
+    ],
+    16,
+);
+
+fn cuts(set: Set, lanes: u8) -> Cuts {
+    match set {
+        Set::Intel => INTEL_CUTS,
+        Set::Amd if lanes == 1 => AMD_LANE_CUTS,
+        Set::Amd => AMD_CUTS,
+    }
+}
+
+fn halts_at_each_cycle<W: BusWord, C: Made>(
+    rt: &impl Abort,
+    alloc: Global,
+    setup: Setup,
+) -> Result<(), Fail>
+    requires { IsTrue (is_wiring W.WIDTH setup.geometry.lanes setup.geometry.device) }
+{
+    let (rows, end) = cuts(C::SET, setup.geometry.lanes);
+    for after in 0..end {
+        let mut left = [0; 2];
+        for (from, bytes) in rows {
+            if from <= after {
+                left = bytes;
+            }
+        }
+        halts_in_a_program::<W, C>(rt, alloc, setup, after, left)?;
+    }
+    // the program is done, and the next call halts
+    let mut bank = armed_bank::<W, C>(rt, alloc, setup, end)?;
+    let at = u32::from(W::WIDTH).saturating_sub(1);
+    assert_eq!(rt; bank.program(1, at, &[0; 2]), Reply::Done);
+    assert_eq!(rt; bank.read(1, at, &mut [0]), Reply::Halted(OFF));
+    stays_halted(rt, &mut bank, OFF);
+    let _bus = bank.stop();
     Ok(())
 }
 
 #[test]
 fn power_goes_at_each_cycle_of_a_program(rt: HostRuntime) -> Result<(), Fail> {
-    for (after, left) in [
-        (0, [0xFF, 0xFF, 0xFF, 0xFF]),
-        (3, [0xFF, 0xFF, 0xFF, 0xFF]),
-        (4, [0x0F, 0x0F, 0xFF, 0xFF]),
-        (6, [0x0F, 0x0F, 0xFF, 0xFF]),
-        (7, [0, 0, 0xFF, 0xFF]),
-        (8, [0, 0, 0xFF, 0xFF]),
-        (11, [0, 0, 0xFF, 0xFF]),
-        (12, [0, 0, 0x0F, 0x0F]),
-        (14, [0, 0, 0x0F, 0x0F]),
-        (15, [0, 0, 0, 0]),
-    ] {
-        halts_in_a_program(&rt, rt.alloc(), after, left)?;
-    }
-    Ok(())
+    halts_at_each_cycle::<u8, Intel>(&rt, rt.alloc(), ONE_CHIP)?;
+    halts_at_each_cycle::<u8, Amd>(&rt, rt.alloc(), ONE_CHIP)?;
+    halts_at_each_cycle::<u32, Intel>(&rt, rt.alloc(), TWO_CHIPS)?;
+    halts_at_each_cycle::<u32, Amd>(&rt, rt.alloc(), TWO_CHIPS)
 }
 
 // A read of two words meets a cut.
-fn halts_in_a_read(rt: &impl Abort, alloc: Global, after: u32) -> Result<(), Fail> {
-    let mut bank = armed_bank(rt, alloc, after)?;
+fn halts_in_a_read<C: Made>(rt: &impl Abort, alloc: Global, after: u32) -> Result<(), Fail> {
+    let mut bank = armed_bank::<u32, C>(rt, alloc, TWO_CHIPS, after)?;
     let opened = Held::ones(rt, alloc, bank.found());
     let mut into = [0xA5; 4];
     assert_eq!(rt; bank.read(1, 2, &mut into), Reply::Halted(OFF));
-    stays_halted(rt, &mut bank, OFF, 1);
+    stays_halted(rt, &mut bank, OFF);
     let mut bus = bank.stop();
     let mut held = opened?;
     assert!(rt; !bus.is_on());
     bus.power_on();
-    let arm = Op::Arm {
-        after: 0,
-        mask: MASK,
-    };
-    held.enters(rt, 0, arm, Reply::Done, Vec::new(alloc));
     let read = Op::Read { at: 2, len: 4 };
-    held.enters(rt, 1, read, Reply::Halted(OFF), Vec::new(alloc));
-    admits_halted(rt, alloc, &mut held, OFF)?;
-    held.enters(rt, 0, Op::PowerOn, Reply::Done, Vec::new(alloc));
-    held.is_in(rt, &mut bus);
-    Ok(())
+    comes_back::<u32, SimBank<u32, C>>(rt, alloc, &mut held, &mut bus, read, Vec::new(alloc))
 }
 
 #[test]
 fn power_goes_at_each_cycle_of_a_read(rt: HostRuntime) -> Result<(), Fail> {
-    halts_in_a_read(&rt, rt.alloc(), 0)?;
-    halts_in_a_read(&rt, rt.alloc(), 1)
+    for after in [0, 1] {
+        halts_in_a_read::<Intel>(&rt, rt.alloc(), after)?;
+        halts_in_a_read::<Amd>(&rt, rt.alloc(), after)?;
+    }
+    Ok(())
 }
 
-#[test]
-fn a_cut_behind_a_call_meets_the_next(rt: HostRuntime) -> Result<(), Fail> {
-    let mut bank = armed_bank(&rt, rt.alloc(), 2)?;
+fn meets_the_next<C: Made>(rt: &impl Abort, alloc: Global) -> Result<(), Fail> {
+    let mut bank = armed_bank::<u32, C>(rt, alloc, TWO_CHIPS, 2)?;
     let mut into = [0xA5; 4];
     assert_eq!(rt; bank.read(1, 2, &mut into), Reply::Done);
     assert_eq!(rt; into, [0xFF; 4]);
@@ -212,19 +322,24 @@ fn a_cut_behind_a_call_meets_the_next(rt: HostRuntime) -> Result<(), Fail> {
     assert_eq!(rt; bank.read(4, 0x4000, &mut into), Reply::OutOfRange);
     assert_eq!(rt; bank.program(5, 0, &[0xFF]), Reply::Halted(OFF));
     assert_eq!(rt; bank.bus().failed(), 1);
-    stays_halted(&rt, &mut bank, OFF, 1);
+    stays_halted(rt, &mut bank, OFF);
     let _bus = bank.stop();
     Ok(())
 }
 
 #[test]
-fn a_started_bank_keeps_no_earlier_halt(rt: HostRuntime) -> Result<(), Fail> {
-    let mut bank = armed_bank(&rt, rt.alloc(), 0)?;
+fn a_cut_behind_a_call_meets_the_next(rt: HostRuntime) -> Result<(), Fail> {
+    meets_the_next::<Intel>(&rt, rt.alloc())?;
+    meets_the_next::<Amd>(&rt, rt.alloc())
+}
+
+fn starts_anew<C: Made>(rt: &impl Abort, alloc: Global) -> Result<(), Fail> {
+    let mut bank = armed_bank::<u32, C>(rt, alloc, TWO_CHIPS, 0)?;
     assert_eq!(rt; bank.read(1, 0, &mut [0]), Reply::Halted(OFF));
     let mut bus = bank.stop();
     assert!(rt; !bus.is_on());
     bus.power_on();
-    let mut bank = start_on::<u32, Chips>(&rt, bus)?;
+    let mut bank = start_on::<u32, SimBank<u32, C>>(rt, bus)?;
     let mut into = [0; 2];
     assert_eq!(rt; bank.read(1, 0, &mut into), Reply::Done);
     assert_eq!(rt; into, [0xFF; 2]);
@@ -232,74 +347,81 @@ fn a_started_bank_keeps_no_earlier_halt(rt: HostRuntime) -> Result<(), Fail> {
     Ok(())
 }
 
-// A lane that never ends its work: of the first word, lane 0 is done, and lane 1 is as it was.
 #[test]
-fn a_stuck_lane_halts_the_bank(rt: HostRuntime) -> Result<(), Fail> {
-    let alloc = rt.alloc();
+fn a_started_bank_keeps_no_earlier_halt(rt: HostRuntime) -> Result<(), Fail> {
+    starts_anew::<Intel>(&rt, rt.alloc())?;
+    starts_anew::<Amd>(&rt, rt.alloc())
+}
+
+// A lane that never ends its work: of the first word, lane 0 is done, and lane 1 is as it was. A
+// program that comes to it makes so many cycles.
+fn sticks<C: Made>(rt: &impl Abort, alloc: Global, cycles: u64) -> Result<(), Fail> {
     let stuck = Halted::Stuck { lane: 1 };
     let setup = Setup {
         stuck_lane: Some(1),
         ..TWO_CHIPS
     };
-    let mut bank = start::<u32>(&rt, alloc, setup)?;
-    let opened = Held::ones(&rt, alloc, bank.found());
-    let cycles = bank.bus().cycles();
+    let mut bank = start::<u32, C>(rt, alloc, setup)?;
+    let opened = Held::ones(rt, alloc, bank.found());
     // where nothing changes no lane works
-    assert_eq!(rt; bank.program(1, 2, &[0xFF; 4]), Reply::Done);
-    assert_eq!(rt; bank.program(1, 2, &[0; 4]), Reply::Halted(stuck));
-    // the reads of three old words, three writes, and as many polls as the table allows
-    assert_eq!(rt; bank.bus().cycles().wrapping_sub(cycles), 3 + 3 + 80);
-    stays_halted(&rt, &mut bank, stuck, 0);
+    assert_eq!(rt; bank.program(1, 0, &[0xFF; 6]), Reply::Done);
+    let before = bank.bus().cycles();
+    assert_eq!(rt; bank.program(1, 0, &[0; 6]), Reply::Halted(stuck));
+    assert_eq!(rt; bank.bus().cycles().wrapping_sub(before), cycles);
+    stays_halted(rt, &mut bank, stuck);
     let mut bus = bank.stop();
     let mut held = opened?;
     assert!(rt; bus.is_on());
     bus.arm(0, 0xFF);
-    assert!(rt; read_word::<u32, Chips>(&mut bus, 0).is_err());
+    assert!(rt; read_word::<u32, SimBank<u32, C>>(&mut bus, 0).is_err());
     assert!(rt; !bus.is_on());
     bus.power_on();
-    assert_eq!(rt;
-        first_eight(alloc, &mut bus)?.as_slice(),
-        [0xFF; 8].as_slice()
-    );
-    let new = make_bytes(alloc, &[0xFF; 4])?;
-    held.enters(
-        &rt,
-        1,
-        Op::Program { at: 2, new },
-        Reply::Done,
-        Vec::new(alloc),
-    );
-    let new = make_bytes(alloc, &[0; 4])?;
-    let range = vec![in alloc; 0xFF; 4]?;
-    held.enters(
-        &rt,
-        1,
-        Op::Program { at: 2, new },
-        Reply::Halted(stuck),
-        range,
-    );
-    admits_halted(&rt, alloc, &mut held, stuck)?;
-    held.is_in(&rt, &mut bus);
+    let words = first_words::<u32, SimBank<u32, C>>(alloc, &mut bus)?;
+    let left = [0, 0, 0xFF, 0xFF, 0xFF, 0xFF];
+    assert_eq!(rt; words.get(..6), Some(left.as_slice()));
+    let new = make_bytes(alloc, &[0xFF; 6])?;
+    let ones = Op::Program { at: 0, new };
+    held.enters(rt, 1, ones, Reply::Done, Vec::new(alloc));
+    let new = make_bytes(alloc, &[0; 6])?;
+    let zeros = Op::Program { at: 0, new };
+    let left = left.to_vec(alloc)?;
+    held.enters(rt, 1, zeros, Reply::Halted(stuck), left);
+    admits_halted(rt, alloc, &mut held, stuck)?;
+    held.is_in(rt, &mut bus);
+    Ok(())
+}
+
+// The read of the old word, the writes, and as many polls as the table allows, which take one read of
+// set 0001 and two of set 0002.
+#[test]
+fn a_stuck_lane_halts_the_bank(rt: HostRuntime) -> Result<(), Fail> {
+    sticks::<Intel>(&rt, rt.alloc(), 1 + 3 + 80)?;
+    sticks::<Amd>(&rt, rt.alloc(), 1 + 4 + 2 * 80)
+}
+
+fn gives_back<C: Made>(rt: &impl Abort, alloc: Global, after: u32) -> Result<(), Fail> {
+    let mut bus = make_bank::<u32, C>(rt, alloc, TWO_CHIPS)?;
+    assert!(rt; bus.is_on());
+    bus.arm(after, MASK);
+    match Bank::<u32, SimBank<u32, C>>::start(bus) {
+        Ok(bank) => {
+            let _bus = bank.stop();
+            return Err("it started")?;
+        }
+        Err((bus, error)) => {
+            assert_eq!(rt; error, ProbeError::Off);
+            assert_eq!(rt; bus.cycles(), u64::from(after));
+            assert_eq!(rt; bus.failed(), 1);
+        }
+    }
     Ok(())
 }
 
 #[test]
 fn a_bus_is_given_back_where_starting_fails(rt: HostRuntime) -> Result<(), Fail> {
     for after in [0, 10, 500] {
-        let mut bus = make_bank::<u32>(&rt, rt.alloc(), TWO_CHIPS)?;
-        assert!(rt; bus.is_on());
-        bus.arm(after, MASK);
-        match Bank::<u32, Chips>::start(bus) {
-            Ok(bank) => {
-                let _bus = bank.stop();
-                return Err("it started")?;
-            }
-            Err((bus, error)) => {
-                assert_eq!(rt; error, ProbeError::Off);
-                assert_eq!(rt; bus.cycles(), u64::from(after));
-                assert_eq!(rt; bus.failed(), 1);
-            }
-        }
+        gives_back::<Intel>(&rt, rt.alloc(), after)?;
+        gives_back::<Amd>(&rt, rt.alloc(), after)?;
     }
     Ok(())
 }

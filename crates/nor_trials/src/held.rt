@@ -1,15 +1,15 @@
 //! Banks whose replies are held, call by call, against the plain array that they stand for.
 ghost use Rattle.std.specs.Prelude.{IsTrue, IfOk, length};
 ghost use Rattle.nor_array.specs.Array.{lie_within};
+ghost use Rattle.nor_cell.specs.Wiring.{is_wiring};
 
-use crate::chips::{Setup, make_bank};
+use crate::chips::{Made, Setup, make_bank};
 use nor_array::{
     Bytes, Consts, Entry, Op, PlainArray, Reply, admits, apply, bytes_of, make_bytes, plain,
 };
 use nor_bank::Bank;
 use nor_bus::{Bus, SimBank, read_word};
-use nor_cell::Span;
-use nor_intel::Intel;
+use nor_cell::{Set, Span};
 use nor_probe::Found;
 use nor_word::BusWord;
 use std::alloc::Global;
@@ -31,14 +31,28 @@ pub fn start_on<W: BusWord, B: Bus<W> + Drop>(rt: &impl Abort, bus: B) -> Result
     }
 }
 
-/// Starts a bank of chips of set 0001.
-pub fn start<W: BusWord>(
+/// Starts a bank of such chips.
+pub fn start<W: BusWord, C: Made>(
     rt: &impl Abort,
     alloc: Global,
     setup: Setup,
-) -> Result<Bank<W, SimBank<W, Intel>>, Fail> {
-    let bus = make_bank::<W>(rt, alloc, setup)?;
-    start_on::<W, SimBank<W, Intel>>(rt, bus)
+) -> Result<Bank<W, SimBank<W, C>>, Fail>
+    requires { IsTrue (is_wiring W.WIDTH setup.geometry.lanes setup.geometry.device) }
+{
+    let bus = make_bank::<W, C>(rt, alloc, setup)?;
+    start_on::<W, SimBank<W, C>>(rt, bus)
+}
+
+/// How many cycles more than its read a bus word takes that changes.
+pub fn cycles_of_change(found: &Found, pace: u32) -> u64 {
+    let polls = u64::from(pace);
+    match found.query.set {
+        // three writes begin it, one poll ends it, and a write shows the array
+        Set::Intel => polls + 5,
+        // four writes begin it; one read ends the work of one lane, and two that of more
+        Set::Amd if found.geometry.lanes == 1 => polls + 5,
+        Set::Amd => polls + 6,
+    }
 }
 
 /// A weak place of a bank of so many bytes, as an array has it.

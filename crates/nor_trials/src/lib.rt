@@ -15,9 +15,13 @@ mod amd_words;
 #[cfg(test)]
 mod banks;
 #[cfg(test)]
+mod boots;
+#[cfg(test)]
 mod chips;
 #[cfg(test)]
 mod cuts;
+#[cfg(test)]
+mod cycles;
 #[cfg(test)]
 mod halts;
 #[cfg(test)]

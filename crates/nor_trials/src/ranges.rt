@@ -1,30 +1,19 @@
-//! Ranges of banks of set 0001 on every wiring, read and programmed beside the plain array.
+//! Ranges of banks of both sets on every wiring, read and programmed beside the plain array.
 ghost use Rattle.std.specs.Prelude.{◌<◌};
 
-use crate::chips::Setup;
-use crate::held::{Held, start};
+use crate::chips::{Made, Setup};
+use crate::held::{Held, cycles_of_change, start};
+use crate::words::WIRINGS;
+use nor_amd::Amd;
 use nor_array::Reply;
 use nor_bank::Bank;
 use nor_bus::Bus;
-use nor_cell::Device::{self, X8, X16, X16Byte};
-use nor_cell::make_geometry;
+use nor_cell::{Device, make_geometry};
+use nor_intel::Intel;
 use nor_word::BusWord;
 use std::alloc::Global;
 use std::process::Abort;
 use std::test::Fail;
-
-// The width of the bus word, the lanes and their device.
-const WIRINGS: [(u8, u8, Device); 9] = [
-    (1, 1, X8),
-    (1, 1, X16Byte),
-    (2, 2, X8),
-    (2, 2, X16Byte),
-    (2, 1, X16),
-    (4, 4, X8),
-    (4, 4, X16Byte),
-    (4, 2, X16),
-    (8, 4, X16),
-];
 
 // How many bytes a chip has, and a block of it.
 const CHIP: u32 = 8192;
@@ -33,9 +22,6 @@ const BLOCK: u32 = 1024;
 
 // How many reads a word shows working.
 const PACE: u32 = 2;
-
-// Cycles of a bus word that changes: the read of the old one, three writes, the polls, one write.
-const CHANGE: u64 = 1 + 3 + PACE as u64 + 1 + 1;
 
 // Numbers that look random.
 #[derive(Drop)]
@@ -150,7 +136,8 @@ fn programs<W: BusWord, B: Bus<W>>(
     let made = bank.bus().cycles().wrapping_sub(before);
     let cycles = match reply {
         Reply::Done => {
-            words_met::<W>(at, new.len()).wrapping_add(changed.wrapping_mul(CHANGE - 1))
+            let change = cycles_of_change(bank.found(), PACE);
+            words_met::<W>(at, new.len()).wrapping_add(changed.wrapping_mul(change))
         }
         _ => 0,
     };
@@ -221,7 +208,7 @@ fn tries_any<W: BusWord, B: Bus<W>>(
     Ok(held)
 }
 
-fn tries<W: BusWord>(
+fn tries<W: BusWord, C: Made>(
     rt: &impl Abort,
     alloc: Global,
     lanes: u8,
@@ -233,28 +220,38 @@ fn tries<W: BusWord>(
         weak_lane: None,
         stuck_lane: None,
     };
-    let mut bank = start::<W>(rt, alloc, setup)?;
+    let mut bank = start::<W, C>(rt, alloc, setup)?;
     assert_eq!(rt; bank.size(), u32::from(lanes) * CHIP);
     assert_eq!(rt; bank.found().geometry, setup.geometry);
+    assert_eq!(rt; bank.found().query.set, C::SET);
     let tried = tries_any(rt, alloc, &mut bank, lanes);
     let mut bus = bank.stop();
     tried?.is_in(rt, &mut bus);
-    let mut bank = start::<W>(rt, alloc, setup)?;
+    let mut bank = start::<W, C>(rt, alloc, setup)?;
     let tried = tries_edges(rt, alloc, &mut bank);
     let mut bus = bank.stop();
     tried?.is_in(rt, &mut bus);
     Ok(())
 }
 
-#[test]
-fn each_wiring_answers_as_its_plain_array(rt: HostRuntime) -> Result<(), Fail> {
+fn tries_each_wiring<C: Made>(rt: &impl Abort, alloc: Global) -> Result<(), Fail> {
     for (width, lanes, device) in WIRINGS {
         match width {
-            1 => tries::<u8>(&rt, rt.alloc(), lanes, device)?,
-            2 => tries::<u16>(&rt, rt.alloc(), lanes, device)?,
-            4 => tries::<u32>(&rt, rt.alloc(), lanes, device)?,
-            _ => tries::<u64>(&rt, rt.alloc(), lanes, device)?,
+            1 => tries::<u8, C>(rt, alloc, lanes, device)?,
+            2 => tries::<u16, C>(rt, alloc, lanes, device)?,
+            4 => tries::<u32, C>(rt, alloc, lanes, device)?,
+            _ => tries::<u64, C>(rt, alloc, lanes, device)?,
         }
     }
     Ok(())
+}
+
+#[test]
+fn each_wiring_of_set_0001_answers_as_its_plain_array(rt: HostRuntime) -> Result<(), Fail> {
+    tries_each_wiring::<Intel>(&rt, rt.alloc())
+}
+
+#[test]
+fn each_wiring_of_set_0002_answers_as_its_plain_array(rt: HostRuntime) -> Result<(), Fail> {
+    tries_each_wiring::<Amd>(&rt, rt.alloc())
 }

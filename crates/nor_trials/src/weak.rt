@@ -1,9 +1,10 @@
-//! Banks of set 0001 in which the fifth byte of one chip is weak.
-use crate::chips::Setup;
+//! Banks of both sets in which the fifth byte of one chip is weak.
+use crate::chips::{Made, Setup};
 use crate::held::{Held, start, weak_spans};
+use nor_amd::Amd;
 use nor_array::Reply;
 use nor_bank::Bank;
-use nor_bus::{Bus, SimBank};
+use nor_bus::Bus;
 use nor_cell::Device::{self, X8, X16, X16Byte};
 use nor_cell::{Span, make_geometry};
 use nor_intel::Intel;
@@ -11,8 +12,6 @@ use nor_word::BusWord;
 use std::alloc::Global;
 use std::process::Abort;
 use std::test::Fail;
-
-type Driven<W> = Bank<W, SimBank<W, Intel>>;
 
 // The lanes and their device; the weak lane, how many bytes of a bus word it takes, and the bits that
 // name it in a failure; the weak byte of the bank, and where its bus word begins.
@@ -38,10 +37,10 @@ fn holds(rt: &impl Abort, held: &Held, zeros: u32, ones: u32) {
 }
 
 // A program over the weak place ends in its word: the words before are done, those behind stay.
-fn breaks_off<W: BusWord>(
+fn breaks_off<W: BusWord, B: Bus<W>>(
     rt: &impl Abort,
     held: &mut Held,
-    bank: &mut Driven<W>,
+    bank: &mut Bank<W, B>,
     row: Row,
 ) -> Result<(), Fail> {
     let (_, _, (_, _, lanes), place, from) = row;
@@ -67,10 +66,10 @@ fn breaks_off<W: BusWord>(
     Ok(())
 }
 
-fn drives<W: BusWord>(
+fn drives<W: BusWord, B: Bus<W>>(
     rt: &impl Abort,
     alloc: Global,
-    bank: &mut Driven<W>,
+    bank: &mut Bank<W, B>,
     row: Row,
 ) -> Result<Held, Fail> {
     let (_, _, (_, len, _), from, _) = row;
@@ -81,7 +80,7 @@ fn drives<W: BusWord>(
     Ok(held)
 }
 
-fn tries<W: BusWord>(rt: &impl Abort, alloc: Global, row: Row) -> Result<(), Fail> {
+fn tries<W: BusWord, C: Made>(rt: &impl Abort, alloc: Global, row: Row) -> Result<(), Fail> {
     let (lanes, device, (weak_lane, _, _), _, _) = row;
     let setup = Setup {
         geometry: make_geometry(W::WIDTH, lanes, device)?,
@@ -89,22 +88,27 @@ fn tries<W: BusWord>(rt: &impl Abort, alloc: Global, row: Row) -> Result<(), Fai
         weak_lane: Some(weak_lane),
         stuck_lane: None,
     };
-    let mut bank = start::<W>(rt, alloc, setup)?;
+    let mut bank = start::<W, C>(rt, alloc, setup)?;
     let driven = drives(rt, alloc, &mut bank, row);
     let mut bus = bank.stop();
     driven?.is_in(rt, &mut bus);
     Ok(())
 }
 
-#[test]
-fn a_weak_lane_fails_in_its_word(rt: HostRuntime) -> Result<(), Fail> {
+fn tries_each_width<C: Made>(rt: &impl Abort, alloc: Global) -> Result<(), Fail> {
     for (width, row) in ROWS {
         match width {
-            1 => tries::<u8>(&rt, rt.alloc(), row)?,
-            2 => tries::<u16>(&rt, rt.alloc(), row)?,
-            4 => tries::<u32>(&rt, rt.alloc(), row)?,
-            _ => tries::<u64>(&rt, rt.alloc(), row)?,
+            1 => tries::<u8, C>(rt, alloc, row)?,
+            2 => tries::<u16, C>(rt, alloc, row)?,
+            4 => tries::<u32, C>(rt, alloc, row)?,
+            _ => tries::<u64, C>(rt, alloc, row)?,
         }
     }
     Ok(())
+}
+
+#[test]
+fn a_weak_lane_fails_in_its_word(rt: HostRuntime) -> Result<(), Fail> {
+    tries_each_width::<Intel>(&rt, rt.alloc())?;
+    tries_each_width::<Amd>(&rt, rt.alloc())
 }

@@ -87,7 +87,7 @@ fn tries<W: BusWord>(
         weak_lane: None,
         stuck_lane: None,
     };
-    let mut bank = make_bank::<W>(rt, alloc, setup)?;
+    let mut bank = make_bank::<W, Intel>(rt, alloc, setup)?;
     let cycles = u64::from(pace) + 5;
     programs(rt, &mut bank, geometry, 7, counting::<W>(0x70), cycles);
     reads(rt, &mut bank, 7, counting::<W>(0x70));
@@ -148,7 +148,7 @@ fn goes_off_at_each<W: BusWord>(
         weak_lane: None,
         stuck_lane: None,
     };
-    let mut bank = make_bank::<W>(rt, alloc, setup)?;
+    let mut bank = make_bank::<W, Intel>(rt, alloc, setup)?;
     let new = counting::<W>(0x30);
     for after in [0, 1, 2] {
         goes_off(rt, &mut bank, geometry, after, W::splat(0xFF));
@@ -185,7 +185,7 @@ fn two_chips(
         weak_lane,
         stuck_lane,
     };
-    make_bank::<u32>(rt, alloc, setup)
+    make_bank::<u32, Intel>(rt, alloc, setup)
 }
 
 #[test]
