@@ -1,5 +1,5 @@
 -- What running a script on a bank that was just loaded makes.
-use Rattle.std.specs.Prelude.{◌≡◌, ◌<◌, ◌⊎◌, ℕ, List, length, map, take, replicate, Result, Ok, Err, slice_index, Bool, true, false, Option, Some, None}
+use Rattle.std.specs.Prelude.{◌≡◌, ◌≢◌, ◌<◌, ◌⊎◌, ℕ, List, length, map, take, replicate, Result, Ok, Err, slice_index, Bool, true, false, Option, Some, None}
 use Rattle.nor_cell.specs.Chip.{ChipState}
 use Rattle.nor_cell.specs.Power.{powered, locks_after}
 use Rattle.nor_cell.specs.declared.device.Device.{Device}
@@ -7,6 +7,7 @@ use Rattle.nor_bus.specs.Bus.{BusState, IsBank, lanes_of, bank_byte, bank_bytes,
 use Rattle.nor_bus.specs.Driven.{AllLanes, EachLane}
 use Rattle.nor_query.specs.Derived.{locks_of}
 use Rattle.nor_probe.specs.Probed.{refusal, IsFoundOn}
+use Rattle.nor_probe.specs.declared.error.ProbeError.TheVariants.{Off as LostPower}
 use Rattle.nor_probe.specs.WellWired.{HasQry}
 use Rattle.nor_probe.specs.declared.probing.Found.{Found}
 use Rattle.nor_array.specs.Array.{ArrayState, opening}
@@ -89,7 +90,7 @@ pub record Untouched (taken : Taken) : Type 0 where
 -- Why a bank of these chips is run, or not: running isn't built for its chips, probing refuses it, or its table offers locks.
 abbrev pub EndsRun : ℕ → List ChipState → Taken → Result Ran RunError → Type 0
 EndsRun width chips taken (Ok ran) = (is_built_bank chips ≡ true) × HasLocks width chips false
-EndsRun width chips taken (Err (Probe error)) = (is_built_bank chips ≡ true) × (refusal width chips ≡ Some error) × Untouched taken
+EndsRun width chips taken (Err (Probe error)) = (is_built_bank chips ≡ true) × (refusal width chips ≡ Some error) × (error ≢ LostPower) × Untouched taken
 EndsRun width chips taken (Err NotBuilt) = ((is_built_bank chips ≡ false) ⊎ ((is_built_bank chips ≡ true) × HasLocks width chips true)) × Untouched taken
 EndsRun width chips taken (Err (Put Fault)) = (is_built_bank chips ≡ true) × HasLocks width chips false × Rose taken.faults_before taken.faults_after
 EndsRun width chips taken (Err (Put NoMemory)) = (is_built_bank chips ≡ true) × HasLocks width chips false

@@ -1,7 +1,7 @@
 use Rattle.std.proofs.Common.{refl, sym}
 use Rattle.nor_bus.proofs.Driving.{keeps_then}
 use Rattle.nor_bank.specs.Stands.{array_of}
-use Rattle.nor_run.proofs.Reporting.{starts_so, all_rest, refused_as, can_run, reports, ends_run}
+use Rattle.nor_run.proofs.Reporting.{starts_so, all_rest, refused_as, never_lost, can_run, reports, ends_run}
 use Rattle.nor_run.proofs.bank.run_bank.Goals as goal
 
 pub returns-in-Ok-clause-ends : goal.returns-in-Ok-clause-ends
@@ -22,4 +22,5 @@ returns-in-Ok-clause-lanes g c =
 
 pub returns-in-Err-clause-ends : goal.returns-in-Err-clause-ends
 returns-in-Err-clause-ends g c =
-    (sym c.if-not-is_built_for.ensures.built, refused_as g.W.BusWord.WIDTH c.args.bank c.in-Err.bank c.in-Err.error c.requires.loaded c.in-Err.ensures.refused c.in-Err.ensures.lost, record { text = refl; faults = refl })
+    (sym c.if-not-is_built_for.ensures.built, refused_as g.W.BusWord.WIDTH c.args.bank c.in-Err.bank c.in-Err.error c.requires.loaded c.in-Err.ensures.refused c.in-Err.ensures.lost,
+    λ is. never_lost g.W.BusWord.WIDTH c.args.bank c.in-Err.bank c.requires.loaded (c.in-Err.ensures.lost is), record { text = refl; faults = refl })
