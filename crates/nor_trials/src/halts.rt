@@ -353,50 +353,71 @@ fn a_started_bank_keeps_no_earlier_halt(rt: HostRuntime) -> Result<(), Fail> {
     starts_anew::<Amd>(&rt, rt.alloc())
 }
 
-// A lane that never ends its work: of the first word, lane 0 is done, and lane 1 is as it was. A
-// program that comes to it makes so many cycles.
-fn sticks<C: Made>(rt: &impl Abort, alloc: Global, cycles: u64) -> Result<(), Fail> {
-    let stuck = Halted::Stuck { lane: 1 };
-    let setup = Setup {
-        stuck_lane: Some(1),
-        ..TWO_CHIPS
-    };
-    let mut bank = start::<u32, C>(rt, alloc, setup)?;
-    let opened = Held::ones(rt, alloc, bank.found());
-    // where nothing changes no lane works
-    assert_eq!(rt; bank.program(1, 0, &[0xFF; 6]), Reply::Done);
+// A lane that never ends its work: a program of zeros comes to it after so many cycles. Where nothing
+// changes no lane works.
+fn comes_to_stuck<W: BusWord, B: Bus<W>>(
+    rt: &impl Abort,
+    alloc: Global,
+    bank: &mut Bank<W, B>,
+    stuck: Halted,
+    len: usize,
+    cycles: u64,
+) -> Result<Held, Fail> {
+    let mut held = Held::ones(rt, alloc, bank.found())?;
+    let ones = vec![in alloc; 0xFF; len]?;
+    assert_eq!(rt; held.programs(rt, bank, 0, &ones)?, Reply::Done);
+    let zeros = vec![in alloc; 0; len]?;
     let before = bank.bus().cycles();
-    assert_eq!(rt; bank.program(1, 0, &[0; 6]), Reply::Halted(stuck));
+    assert_eq!(rt; bank.program(1, 0, &zeros), Reply::Halted(stuck));
     assert_eq!(rt; bank.bus().cycles().wrapping_sub(before), cycles);
-    stays_halted(rt, &mut bank, stuck);
+    stays_halted(rt, bank, stuck);
+    Ok(held)
+}
+
+// The last lane is stuck, and a program leaves these bytes.
+fn sticks<W: BusWord, C: Made>(
+    rt: &impl Abort,
+    alloc: Global,
+    setup: Setup,
+    left: &[u8],
+    cycles: u64,
+) -> Result<(), Fail>
+    requires { IsTrue (is_wiring W.WIDTH setup.geometry.lanes setup.geometry.device) }
+{
+    let lane = setup.geometry.lanes.saturating_sub(1);
+    let stuck = Halted::Stuck { lane };
+    let setup = Setup {
+        stuck_lane: Some(lane),
+        ..setup
+    };
+    let mut bank = start::<W, C>(rt, alloc, setup)?;
+    let met = comes_to_stuck(rt, alloc, &mut bank, stuck, left.len(), cycles);
     let mut bus = bank.stop();
-    let mut held = opened?;
+    let mut held = met?;
     assert!(rt; bus.is_on());
     bus.arm(0, 0xFF);
-    assert!(rt; read_word::<u32, SimBank<u32, C>>(&mut bus, 0).is_err());
+    assert!(rt; read_word::<W, SimBank<W, C>>(&mut bus, 0).is_err());
     assert!(rt; !bus.is_on());
     bus.power_on();
-    let words = first_words::<u32, SimBank<u32, C>>(alloc, &mut bus)?;
-    let left = [0, 0, 0xFF, 0xFF, 0xFF, 0xFF];
-    assert_eq!(rt; words.get(..6), Some(left.as_slice()));
-    let new = make_bytes(alloc, &[0xFF; 6])?;
-    let ones = Op::Program { at: 0, new };
-    held.enters(rt, 1, ones, Reply::Done, Vec::new(alloc));
-    let new = make_bytes(alloc, &[0; 6])?;
-    let zeros = Op::Program { at: 0, new };
+    let new = make_bytes(alloc, ZEROS.get(..left.len()).unwrap_or(&[]))?;
+    let program = Op::Program { at: 0, new };
     let left = left.to_vec(alloc)?;
-    held.enters(rt, 1, zeros, Reply::Halted(stuck), left);
+    held.enters(rt, 1, program, Reply::Halted(stuck), left);
     admits_halted(rt, alloc, &mut held, stuck)?;
     held.is_in(rt, &mut bus);
     Ok(())
 }
 
-// The read of the old word, the writes, and as many polls as the table allows, which take one read of
-// set 0001 and two of set 0002.
+// The read of the old word, the writes, and as many polls as the table allows: one read each of set
+// 0001, and two of set 0002. Of two lanes the first is done.
 #[test]
 fn a_stuck_lane_halts_the_bank(rt: HostRuntime) -> Result<(), Fail> {
-    sticks::<Intel>(&rt, rt.alloc(), 1 + 3 + 80)?;
-    sticks::<Amd>(&rt, rt.alloc(), 1 + 4 + 2 * 80)
+    let one = [0xFF; 3];
+    let two = [0, 0, 0xFF, 0xFF, 0xFF, 0xFF];
+    sticks::<u8, Intel>(&rt, rt.alloc(), ONE_CHIP, &one, 1 + 3 + 80)?;
+    sticks::<u8, Amd>(&rt, rt.alloc(), ONE_CHIP, &one, 1 + 4 + 2 * 80)?;
+    sticks::<u32, Intel>(&rt, rt.alloc(), TWO_CHIPS, &two, 1 + 3 + 80)?;
+    sticks::<u32, Amd>(&rt, rt.alloc(), TWO_CHIPS, &two, 1 + 4 + 2 * 80)
 }
 
 fn gives_back<C: Made>(rt: &impl Abort, alloc: Global, after: u32) -> Result<(), Fail> {

@@ -6,8 +6,8 @@
 //! range of a bank that was asked about its wiring has the bytes that lie there by the rule of the
 //! interleave; that every failed cycle is counted once, and a cut leaves what its mask says; that a
 //! word is programmed in as many cycles as is said, and what a loss of power at each of them, a weak
-//! lane and a stuck one leave; and that all this can be done, as a clause can't say that memory is
-//! left.
+//! lane and a stuck one leave; that a bank of either set answers as the plain array beside it, and in
+//! how many cycles; and that all this can be done, as a clause can't say that memory is left.
 #![tactic(auto)]
 
 #[cfg(test)]
@@ -15,7 +15,7 @@ mod amd_words;
 #[cfg(test)]
 mod banks;
 #[cfg(test)]
-mod boots;
+mod blocks;
 #[cfg(test)]
 mod chips;
 #[cfg(test)]

@@ -1,4 +1,4 @@
-//! Banks of both sets whose blocks are of two sizes, programmed at the start of each block.
+//! Banks of both sets, with blocks of one size or of two, programmed at the start of each block.
 
 use crate::banks::{Wiring, bank_bytes, load_tables};
 use crate::chips::table;
@@ -28,6 +28,8 @@ fn boot_table(device: Device, set: Set) -> [u8; 512] {
 }
 
 // The starts of a chip's blocks.
+const EVEN: [u32; 8] = [0, 0x400, 0x800, 0xC00, 0x1000, 0x1400, 0x1800, 0x1C00];
+
 const BOTTOM: [u32; 15] = [
     0, 0x80, 0x100, 0x180, 0x200, 0x280, 0x300, 0x380, 0x400, 0x800, 0xC00, 0x1000, 0x1400, 0x1800,
     0x1C00,
@@ -44,15 +46,12 @@ fn programs<W: BusWord, B: Bus<W>>(
     alloc: Global,
     bank: &mut Bank<W, B>,
     geometry: Geometry,
+    starts: &[u32],
 ) -> Result<Held, Fail> {
     let bytes = bank_bytes(alloc, geometry)?;
     let mut held = Held::opening(rt, alloc, bank.found(), &bytes, Vec::new(alloc))?;
     assert_eq!(rt; bank.found().geometry, geometry);
-    assert_eq!(rt; bank.found().map.blocks(), 15);
-    let starts = match bank.found().query.set {
-        Set::Intel => BOTTOM,
-        Set::Amd => TOP,
-    };
+    assert_eq!(rt; bank.found().map.blocks() as usize, starts.len());
     for start in starts {
         let at = start.wrapping_mul(u32::from(geometry.lanes));
         assert_eq!(rt; held.programs(rt, bank, at, &[0xA5])?, Reply::Done, "{at}");
@@ -70,25 +69,41 @@ fn tries<W: BusWord, C: Chip + Drop>(
     alloc: Global,
     bus: SimBank<W, C>,
     geometry: Geometry,
+    starts: &[u32],
 ) -> Result<(), Fail> {
     let mut bank = start_on::<W, SimBank<W, C>>(rt, bus)?;
-    let programmed = programs(rt, alloc, &mut bank, geometry);
+    let programmed = programs(rt, alloc, &mut bank, geometry, starts);
     let mut bus = bank.stop();
     programmed?.is_in(rt, &mut bus);
     assert_eq!(rt; bus.failed(), 0);
     Ok(())
 }
 
-#[test]
-fn each_block_is_programmed_at_its_start(rt: HostRuntime) -> Result<(), Fail> {
-    for set in [Set::Intel, Set::Amd] {
-        for (width, lanes, device) in WIRINGS {
-            let geometry = Geometry { lanes, device };
-            let wiring = Wiring { width, geometry };
-            let tables = [boot_table(device, set); 4];
-            let loaded = load_tables(&rt, rt.alloc(), wiring, &tables)?;
-            with_bank!(loaded, bank => tries(&rt, rt.alloc(), bank, geometry)?);
-        }
+// Every wiring.
+fn tries_each(
+    rt: &impl Abort,
+    alloc: Global,
+    set: Set,
+    is_boot: bool,
+    starts: &[u32],
+) -> Result<(), Fail> {
+    for (width, lanes, device) in WIRINGS {
+        let geometry = Geometry { lanes, device };
+        let table = if is_boot {
+            boot_table(device, set)
+        } else {
+            table(device, set)
+        };
+        let loaded = load_tables(rt, alloc, Wiring { width, geometry }, &[table; 4])?;
+        with_bank!(loaded, bank => tries(rt, alloc, bank, geometry, starts)?);
     }
     Ok(())
+}
+
+#[test]
+fn each_block_is_programmed_at_its_start(rt: HostRuntime) -> Result<(), Fail> {
+    tries_each(&rt, rt.alloc(), Set::Intel, false, &EVEN)?;
+    tries_each(&rt, rt.alloc(), Set::Intel, true, &BOTTOM)?;
+    tries_each(&rt, rt.alloc(), Set::Amd, false, &EVEN)?;
+    tries_each(&rt, rt.alloc(), Set::Amd, true, &TOP)
 }
