@@ -12,6 +12,8 @@ mod answering;
 mod loading;
 mod printing;
 mod quiet;
+mod running;
+mod script;
 mod status;
 #[cfg(test)]
 mod tests;
