@@ -1,6 +1,6 @@
 //! The program over shelves and sinks in memory: banks of each kind, and each refusal.
 mod images;
-mod running;
+mod runs;
 
 use crate::quiet::quiet;
 use images::{
