@@ -82,7 +82,11 @@ const CELLS: usize = 548;
 fn scripts_on_one_chip_are_answered(rt: HostRuntime) -> Result<(), Fail> {
     let alloc = rt.alloc();
     let bank = file_of(alloc, one_plain())?;
-    let zeros = changed(changed(file_of(alloc, one_plain())?, CELLS + 3, 0), CELLS + 4, 0);
+    let zeros = changed(
+        changed(file_of(alloc, one_plain())?, CELLS + 3, 0),
+        CELLS + 4,
+        0,
+    );
     reports(
         &rt,
         alloc,
@@ -100,7 +104,14 @@ fn scripts_on_one_chip_are_answered(rt: HostRuntime) -> Result<(), Fail> {
         b"0 1 program 0x1 f0 -> done\n1 1 read 0x0 2 -> 0000\nlane 0 suspends 0 erases 0\nhistory 2\n",
         &zero,
     )?;
-    reports(&rt, alloc, &bank, b"", b"lane 0 suspends 0 erases 0\nhistory 0\n", &bank)?;
+    reports(
+        &rt,
+        alloc,
+        &bank,
+        b"",
+        b"lane 0 suspends 0 erases 0\nhistory 0\n",
+        &bank,
+    )?;
     Ok(())
 }
 
@@ -125,7 +136,11 @@ fn scripts_on_chips_of_set_0002_are_answered(rt: HostRuntime) -> Result<(), Fail
     let alloc = rt.alloc();
     let four = file_of(alloc, four_plain_amd())?;
     // Byte 5 of the bank is byte 1 of lane 2.
-    let saved = changed(file_of(alloc, four_plain_amd())?, 12 + 2 * 8728 + 536 + 1, 0x0F);
+    let saved = changed(
+        file_of(alloc, four_plain_amd())?,
+        12 + 2 * 8728 + 536 + 1,
+        0x0F,
+    );
     reports(
         &rt,
         alloc,
@@ -136,7 +151,10 @@ fn scripts_on_chips_of_set_0002_are_answered(rt: HostRuntime) -> Result<(), Fail
     )?;
     let script = b"1 program 0x0 f0\n1 program 0x0 0f\n1 read 0x0 1\n";
     let answers = b"0 1 program 0x0 f0 -> done\n1 1 program 0x0 0f -> done\n2 1 read 0x0 1 -> 00\n";
-    for (image, lanes) in [(four_plain_amd(), 4usize), (one_plain_amd_in_byte_mode(), 1)] {
+    for (image, lanes) in [
+        (four_plain_amd(), 4usize),
+        (one_plain_amd_in_byte_mode(), 1),
+    ] {
         let bank = file_of(alloc, image)?;
         let ended = run(alloc, &bank, script, &[], &[])?;
         assert_eq!(rt; ended.code, 0);
@@ -158,7 +176,10 @@ fn a_text_that_is_no_script_is_told(rt: HostRuntime) -> Result<(), Fail> {
         (b"1 read zz 1\n", b"script: line 1: number\n"),
         (b"1 program 0x0 abc\n", b"script: line 1: hex\n"),
         (b"1 program 0x\xff 00\n", b"script: line 1: bytes\n"),
-        (b"1 read 0x0 1\n1 read 0x0 1\n1 reda 0x0 1\n", b"script: line 3: word\n"),
+        (
+            b"1 read 0x0 1\n1 read 0x0 1\n1 reda 0x0 1\n",
+            b"script: line 3: word\n",
+        ),
     ];
     for (script, printed) in bad {
         refuses(&rt, alloc, &bank, script, 4, printed)?;
@@ -185,7 +206,14 @@ fn what_is_not_built_is_told(rt: HostRuntime) -> Result<(), Fail> {
     }
     let locks = file_of(alloc, one_x16())?;
     refuses(&rt, alloc, &locks, b"", 11, b"not built\n")?;
-    refuses(&rt, alloc, &locks, b"1 reed 0x0 1\n", 4, b"script: line 1: word\n")?;
+    refuses(
+        &rt,
+        alloc,
+        &locks,
+        b"1 reed 0x0 1\n",
+        4,
+        b"script: line 1: word\n",
+    )?;
     // The flag of a stuck lane stands at place 21 of the file.
     let stuck = changed(file_of(alloc, one_plain())?, 21, 1);
     refuses(&rt, alloc, &stuck, b"", 11, b"not built\n")
@@ -196,11 +224,32 @@ fn the_first_failure_ends_a_run(rt: HostRuntime) -> Result<(), Fail> {
     let alloc = rt.alloc();
     let bank = file_of(alloc, one_plain())?;
     // a bad script on a bad image; a good script on a bank that probing refuses
-    refuses(&rt, alloc, b"hello, world\n", b"1 reed 0x0 1\n", 3, b"image: bad magic\n")?;
+    refuses(
+        &rt,
+        alloc,
+        b"hello, world\n",
+        b"1 reed 0x0 1\n",
+        3,
+        b"image: bad magic\n",
+    )?;
     let mute = changed(file_of(alloc, one_plain())?, 32 + 0x10, 0);
     refuses(&rt, alloc, &mute, b"", 5, b"probe: no answer\n")?;
-    refuses(&rt, alloc, &mute, b"1 reed 0x0 1\n", 4, b"script: line 1: word\n")?;
-    refuses(&rt, alloc, first_part(&bank, 8739), b"", 3, b"image: truncated at 8739\n")
+    refuses(
+        &rt,
+        alloc,
+        &mute,
+        b"1 reed 0x0 1\n",
+        4,
+        b"script: line 1: word\n",
+    )?;
+    refuses(
+        &rt,
+        alloc,
+        first_part(&bank, 8739),
+        b"",
+        3,
+        b"image: truncated at 8739\n",
+    )
 }
 
 #[test]

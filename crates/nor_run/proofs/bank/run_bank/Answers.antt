@@ -21,6 +21,9 @@ returns-in-Ok-clause-lanes g c =
     keeps_then c.args.bank c.in-Ok.bank.bus c.run_started.result.0 c.in-Ok.ensures.counted.went.kept c.run_started.ensures.lanes
 
 pub returns-in-Err-clause-ends : goal.returns-in-Err-clause-ends
-returns-in-Err-clause-ends g c =
-    (sym c.if-not-is_built_for.ensures.built, refused_as g.W.BusWord.WIDTH c.args.bank c.in-Err.bank c.in-Err.error c.requires.loaded c.in-Err.ensures.refused c.in-Err.ensures.lost,
-    λ is. never_lost g.W.BusWord.WIDTH c.args.bank c.in-Err.bank c.requires.loaded (c.in-Err.ensures.lost is), record { text = refl; faults = refl })
+returns-in-Err-clause-ends g c = (
+  sym c.if-not-is_built_for.ensures.built,
+  refused_as g.W.BusWord.WIDTH c.args.bank c.in-Err.bank c.in-Err.error c.requires.loaded c.in-Err.ensures.refused c.in-Err.ensures.lost,
+  λ is. never_lost g.W.BusWord.WIDTH c.args.bank c.in-Err.bank c.requires.loaded (c.in-Err.ensures.lost is),
+  record { text = refl; faults = refl },
+)
