@@ -22,7 +22,7 @@ true_false : true ≡ false → ⊥
 true_false is = cc
 
 unlike : (b : Bool) → b ≡ true → b ≡ false → ⊥
-unlike b yes no = true_false (sym yes ∙ no)
+unlike b is other = true_false (sym is ∙ other)
 
 -- ---- none of its stops comes
 

@@ -1,4 +1,4 @@
-use Rattle.std.proofs.Common.{◌≡◌, ◌≤◌, ◌^◌, List, ℕ, Some, None, inl, inr, refl, subst, length, rules}
+use Rattle.std.proofs.Common.{◌≤◌, ◌^◌, List, ℕ, Some, None, inl, inr, refl, subst, length, rules}
 use Rattle.nor_io.specs.Files.{Rose, IsTooLarge, IsAbsent}
 use Rattle.norbank.specs.Endings.{ends}
 use Rattle.norbank.specs.Says.{Says, took}

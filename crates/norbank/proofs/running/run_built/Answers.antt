@@ -1,9 +1,8 @@
-use Rattle.std.proofs.Common.{◌≡◌, ◌∙◌, List, Err, subst}
+use Rattle.std.proofs.Common.{List, Err, subst}
 use Rattle.nor_script.specs.declared.line.Line.{Line}
 use Rattle.nor_bus.specs.Driven.{AllLanes}
 use Rattle.nor_image.specs.Loaded.{bus_of, loaded_width}
 use Rattle.nor_run.specs.Scripts.{ShowsQry, RunsImage, ReportsImage}
-use Rattle.norbank.specs.Runs.{shelved}
 use Rattle.norbank.specs.Says.{took}
 use Rattle.norbank.proofs.RunStages.{probe_refuses, table_unbuilt, put_failed, was_run}
 use Rattle.norbank.proofs.running.run_built.Goals as goal

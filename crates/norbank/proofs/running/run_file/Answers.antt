@@ -1,4 +1,4 @@
-use Rattle.std.proofs.Common.{◌≡◌, ◌∙◌, List, ℕ, sym, subst}
+use Rattle.std.proofs.Common.{List, ℕ, subst}
 use Rattle.nor_image.specs.Image.{IsImageOf, IsCause}
 use Rattle.nor_image.specs.Loaded.{bus_of, loaded_width}
 use Rattle.norbank.specs.Says.{took}

@@ -1,4 +1,4 @@
-use Rattle.std.proofs.Common.{◌≡◌, ◌≤◌, ◌^◌, List, ℕ, Some, inl, inr, refl, subst, length, rules}
+use Rattle.std.proofs.Common.{◌≤◌, ◌^◌, List, ℕ, Some, inl, inr, refl, subst, length, rules}
 use Rattle.nor_io.specs.Files.{Rose, IsTooLarge}
 use Rattle.norbank.specs.Endings.{ends}
 use Rattle.norbank.specs.Runs.{FileRuns, shelved, script_too_large}

@@ -1,4 +1,4 @@
-use Rattle.std.proofs.Common.{◌≡◌, ◌∙◌, sym, true}
+use Rattle.std.proofs.Common.{sym}
 use Rattle.nor_image.specs.Loaded.{bus_of, loaded_width}
 use Rattle.norbank.specs.Says.{took}
 use Rattle.norbank.proofs.RunStages.{text_runs, no_script}
