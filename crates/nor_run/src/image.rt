@@ -68,12 +68,13 @@ fn run_loaded<K: Sink>(
 ///
 /// Each line must be built. `NotBuilt` comes exactly where [`crate::is_built`] isn't true of the bank, or
 /// where probing accepts it and its table offers locks; `Probe` exactly where probing refuses a bank that
-/// running is built for. Both put nothing. `Put` comes only from the sink, which has then taken a first
-/// part of the report. After an error the file is as it was. It takes no memory.
+/// running is built for. Both put nothing. `Put` comes only from the sink. After an error the file is as
+/// it was. It takes no memory.
 ///
 /// Where the chips' tables begin with `QRY`, the report is that of a legal history of the plain array
 /// that opens with the bank's bytes, the history answers the lines, and the file stands for a bank that
-/// is as before, but for its cells, which are the array's bytes.
+/// is as before, but for its cells, which are the array's bytes; after `Put` the sink has taken a first
+/// part of such a report.
 pub fn run_image<K: Sink>(
     loaded: Loaded,
     file: &mut [u8],

@@ -14,13 +14,23 @@ use std::alloc::Global;
 use std::process::Abort;
 use std::test::Fail;
 
+// The table with these bytes from a place on.
+fn with_bytes(table: [u8; 512], at: usize, bytes: &[u8]) -> [u8; 512] {
+    let mut table = table;
+    for (step, byte) in bytes.iter().enumerate() {
+        if let Some(there) = table.get_mut(at.saturating_add(step)) {
+            *there = *byte;
+        }
+    }
+    table
+}
+
 // Eight blocks of 128 bytes and seven of 1 KiB: at the bottom, or for set 0002 at the top.
 fn boot_table(device: Device, set: Set) -> [u8; 512] {
     let even = table(device, set);
-    let mut table = even;
+    let regions = with_bytes(even, 0x2C, &[2, 7, 0, 0, 0, 6, 0, 4, 0]);
+    let mut table = with_bytes(regions, 0x35, &even[0x31..0x41]);
     table[0x15] = 0x35;
-    table[0x2C..0x35].copy_from_slice(&[2, 7, 0, 0, 0, 6, 0, 4, 0]);
-    table[0x35..0x45].copy_from_slice(&even[0x31..0x41]);
     if set == Set::Amd {
         table[0x44] = 3;
     }

@@ -99,6 +99,6 @@ run_done files name script_name file text lines shelf taken status told can (inl
     by (inl so) = absurd (no_told_stop files name script_name file text lines can so.ending (subst (λ (o : Option FileMap). IsToldStop o name script_name so.ending) told so.is))
     by (inr lacks) = inr (lacks_done shelf taken status taken.faults_before (omega arith) lacks)
 run_done files name script_name file text lines shelf taken status told can (inr (inl (inl fails))) = inr (fault_done shelf taken status taken.faults_before (read_fault name) fails.rose fails.says)
-run_done files name script_name file text lines shelf taken status told can (inr (inl (inr fails))) = inr (fault_done shelf taken status taken.faults_before (read_fault script_name) fails.rose fails.says)
+run_done files name script_name file text lines shelf taken status told can (inr (inl (inr fails))) = inr (fault_done shelf taken status taken.faults_before (read_fault script_name) fails.fails.rose fails.fails.says)
 run_done files name script_name file text lines shelf taken status told can (inr (inr ran)) =
     runs_done (width_of ran.file) ran.runs.runs.lines ran.file name shelf taken status ran.runs.runs.runs

@@ -214,7 +214,7 @@ named_runs file text name script_name b m a f h g taken status same le is small 
     inl (stops_as (shelved b a f g) taken status (λ e stop. record { text = Some text; is_text = is; is = inr (small, stop) })
     (stops_early (IsFileStop file text) b m a f h g taken status same stops))
 named_runs file text name script_name b m a f h g taken status same le is small (inr runs) =
-    inr (inr (record { text = text; is_text = is; runs = file_early file text name b m a f h g taken status same le runs }))
+    inr (inr (record { text = text; is_text = is; short = small; runs = file_early file text name b m a f h g taken status same le runs }))
 
 -- ---- the image under its name
 
@@ -234,13 +234,16 @@ run_ends file name script_name b m a f h g taken status same le is small (inl st
       is = inr (small, stop.is);
     })
     (stops_early (IsToldText m file script_name) b m a f h g taken status same stops))
-run_ends file name script_name b m a f h g taken status same le is small (inr (inl fails)) = inr (inl (inr (name_fails script_name b m a f h g taken status same le fails)))
+run_ends file name script_name b m a f h g taken status same le is small (inr (inl fails)) =
+    inr (inl (inr (record { file = file; is_file = is; few_bytes = small; fails = name_fails script_name b m a f h g taken status same le fails })))
 run_ends file name script_name b m a f h g taken status same le is small (inr (inr runs)) = inr (inr (record {
   file = file;
   is_file = is;
+  few_bytes = small;
   runs = record {
     text = runs.text;
     is_text = subst (λ (o : Option FileMap). IsFound o script_name (Some runs.text)) same runs.is_text;
+    short = runs.short;
     runs = file_early file runs.text name b m a f h g taken status same le runs.runs;
   };
 }))

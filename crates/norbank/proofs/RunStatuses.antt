@@ -146,8 +146,10 @@ told_ran name script_name shelf taken status told is = by told.runs.runs.runs
         record {
           file = told.file;
           is_file = told.is_file;
+          few_bytes = told.few_bytes;
           text = told.runs.text;
           is_text = told.runs.is_text;
+          short = told.runs.short;
           lines = told.runs.runs.lines;
           can = told.runs.runs.can;
           ran = whole.ran;
@@ -164,7 +166,7 @@ pub run_ran : (name script_name : List ℕ) (shelf : Shelved) (taken : Taken) (s
 run_ran name script_name shelf taken status (inl stops) is =
     absurd (stops_never_done (IsToldStop shelf.before name script_name) shelf taken status (told_code shelf.before name script_name) stops is)
 run_ran name script_name shelf taken status (inr (inl (inl fails))) is = absurd (fails_never_done name shelf taken status fails is)
-run_ran name script_name shelf taken status (inr (inl (inr fails))) is = absurd (fails_never_done script_name shelf taken status fails is)
+run_ran name script_name shelf taken status (inr (inl (inr fails))) is = absurd (fails_never_done script_name shelf taken status fails.fails is)
 run_ran name script_name shelf taken status (inr (inr told)) is = told_ran name script_name shelf taken status told is
 
 -- ---- another status: no file has changed
@@ -185,7 +187,7 @@ pub run_kept : (name script_name : List ℕ) (shelf : Shelved) (taken : Taken) (
     → shelf.after ≡ shelf.before
 run_kept name script_name shelf taken status (inl stops) zero_not six_not = stops.kept
 run_kept name script_name shelf taken status (inr (inl (inl fails))) zero_not six_not = fails.kept
-run_kept name script_name shelf taken status (inr (inl (inr fails))) zero_not six_not = fails.kept
+run_kept name script_name shelf taken status (inr (inl (inr fails))) zero_not six_not = fails.fails.kept
 run_kept name script_name shelf taken status (inr (inr told)) zero_not six_not = by told.runs.runs.runs
   where
     by : Runs (width_of told.file) told.runs.runs.lines (fresh_bus (chips_of_file told.file)) name shelf taken status → shelf.after ≡ shelf.before
@@ -216,7 +218,7 @@ run_seven name script_name shelf taken status (inl stops) is = inr (by stops.say
     by (inl so) = seven_of so.ending taken status (told_code shelf.before name script_name so.ending so.is).fault so.says is
     by (inr lacks) = seven_of (ends 9 no_memory) taken status (λ x. omega arith) lacks is
 run_seven name script_name shelf taken status (inr (inl (inl fails))) is = inl fails.rose
-run_seven name script_name shelf taken status (inr (inl (inr fails))) is = inl fails.rose
+run_seven name script_name shelf taken status (inr (inl (inr fails))) is = inl fails.fails.rose
 run_seven name script_name shelf taken status (inr (inr told)) is = by told.runs.runs.runs
   where
     from_part : ((status ≡ 7) × Rose taken.faults_before taken.faults_after) ⊎ (status ≡ 9) → Rose taken.faults_before taken.faults_after

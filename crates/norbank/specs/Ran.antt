@@ -21,8 +21,10 @@ use Rattle.norbank.specs.Says.{IsFound}
 pub record RanImage (name script_name : List ℕ) (shelf : Shelved) (taken : Taken) (status : ℕ) : Type 0 where
   pub file : List ℕ
   pub is_file : IsFound shelf.before name (Some file)
+  pub few_bytes : length file ≤ 2 ^ 30
   pub text : List ℕ
   pub is_text : IsFound shelf.before script_name (Some text)
+  pub short : length text ≤ 2 ^ 30
   pub lines : List Line
   pub can : CanRunFile file text lines
   pub ran : Ran

@@ -203,6 +203,7 @@ pub record IsToldText (told : Option FileMap) (file script_name : List ℕ) (end
 pub record RunsNamed (file name script_name : List ℕ) (shelf : Shelved) (taken : Taken) (status : ℕ) : Type 0 where
   pub text : List ℕ
   pub is_text : IsFound shelf.before script_name (Some text)
+  pub short : length text ≤ 2 ^ 30
   pub runs : RunsFile file text name shelf taken status
 
 abbrev pub NamedRuns : (file name script_name : List ℕ) → Shelved → Taken → ℕ → Type 0
@@ -222,10 +223,18 @@ pub record IsToldStop (told : Option FileMap) (name script_name : List ℕ) (end
 pub record RunsTold (name script_name : List ℕ) (shelf : Shelved) (taken : Taken) (status : ℕ) : Type 0 where
   pub file : List ℕ
   pub is_file : IsFound shelf.before name (Some file)
+  pub few_bytes : length file ≤ 2 ^ 30
   pub runs : RunsNamed file name script_name shelf taken status
+
+-- The image was read, and then the script couldn't be.
+pub record ScriptFails (name script_name : List ℕ) (shelf : Shelved) (taken : Taken) (status : ℕ) : Type 0 where
+  pub file : List ℕ
+  pub is_file : IsFound shelf.before name (Some file)
+  pub few_bytes : length file ≤ 2 ^ 30
+  pub fails : ReadFails script_name shelf taken status
 
 -- A run stops as the files under its names say, or as one of them can't be read, or the script was run.
 abbrev pub RunEnds : (name script_name : List ℕ) → Shelved → Taken → ℕ → Type 0
 RunEnds name script_name shelf taken status =
     Stops (IsToldStop shelf.before name script_name) shelf taken status
-    ⊎ ((ReadFails name shelf taken status ⊎ ReadFails script_name shelf taken status) ⊎ RunsTold name script_name shelf taken status)
+    ⊎ ((ReadFails name shelf taken status ⊎ ScriptFails name script_name shelf taken status) ⊎ RunsTold name script_name shelf taken status)

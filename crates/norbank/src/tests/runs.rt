@@ -150,19 +150,25 @@ fn scripts_on_chips_of_set_0002_are_answered(rt: HostRuntime) -> Result<(), Fail
         &saved,
     )?;
     let script = b"1 program 0x0 f0\n1 program 0x0 0f\n1 read 0x0 1\n";
-    let answers = b"0 1 program 0x0 f0 -> done\n1 1 program 0x0 0f -> done\n2 1 read 0x0 1 -> 00\n";
-    for (image, lanes) in [
-        (four_plain_amd(), 4usize),
-        (one_plain_amd_in_byte_mode(), 1),
-    ] {
-        let bank = file_of(alloc, image)?;
-        let ended = run(alloc, &bank, script, &[], &[])?;
-        assert_eq!(rt; ended.code, 0);
-        assert!(rt; ended.printed.starts_with(answers));
-        assert_eq!(rt; ended.printed.len(), answers.len() + lanes * 27 + 10);
-        assert_eq!(rt; ended.bank.get(CELLS), Some(&0));
-    }
-    Ok(())
+    let zero = changed(file_of(alloc, four_plain_amd())?, CELLS, 0);
+    reports(
+        &rt,
+        alloc,
+        &four,
+        script,
+        b"0 1 program 0x0 f0 -> done\n1 1 program 0x0 0f -> done\n2 1 read 0x0 1 -> 00\nlane 0 suspends 0 erases 0\nlane 1 suspends 0 erases 0\nlane 2 suspends 0 erases 0\nlane 3 suspends 0 erases 0\nhistory 3\n",
+        &zero,
+    )?;
+    let one = file_of(alloc, one_plain_amd_in_byte_mode())?;
+    let zero = changed(file_of(alloc, one_plain_amd_in_byte_mode())?, CELLS, 0);
+    reports(
+        &rt,
+        alloc,
+        &one,
+        script,
+        b"0 1 program 0x0 f0 -> done\n1 1 program 0x0 0f -> done\n2 1 read 0x0 1 -> 00\nlane 0 suspends 0 erases 0\nhistory 3\n",
+        &zero,
+    )
 }
 
 #[test]
@@ -216,7 +222,8 @@ fn what_is_not_built_is_told(rt: HostRuntime) -> Result<(), Fail> {
     )?;
     // The flag of a stuck lane stands at place 21 of the file.
     let stuck = changed(file_of(alloc, one_plain())?, 21, 1);
-    refuses(&rt, alloc, &stuck, b"", 11, b"not built\n")
+    refuses(&rt, alloc, &stuck, b"", 11, b"not built\n")?;
+    Ok(())
 }
 
 #[test]
