@@ -20,7 +20,7 @@
 //! cycles and `0xF0` at the first address. In a block whose erase is suspended bit 7 is set and
 //! bit 2 toggles. A program or an erase of a locked block does nothing, and nothing tells it.
 //!
-//! `Amd` makes each step that nor_cell's definitions of this set allow, and refuses nothing. What
+//! Each cycle of `Amd` is a step of nor_cell's definitions of this set, and no cycle is refused. What
 //! both sets share is nor_cell's `Machine`; here are the codes, the steps and what reads show.
 #![tactic(auto)]
 

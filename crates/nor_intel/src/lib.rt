@@ -13,7 +13,7 @@
 //! The status register: bit 7 ready, 6 an erase is suspended, 5 erase error, 4 program error, 1 the
 //! block was locked. Bits 5 and 4 together are a command sequence error.
 //!
-//! `Intel` makes each step that nor_cell's definitions of this set allow, and refuses nothing. What
+//! Each cycle of `Intel` is a step of nor_cell's definitions of this set, and no cycle is refused. What
 //! both sets share is nor_cell's `Machine`; here are the codes, the steps and what reads show.
 #![tactic(auto)]
 

@@ -25,7 +25,7 @@ torn_stored d weak p bytes old new h = record {
   inside = λ q low high. byte_between d (unwrap_or (break_of d weak p bytes old) (p + length bytes)) q _ _ _ (h.inside q low high);
 }
 
-stop_of : (o : Option ℕ) (end : ℕ) → is_some o ≡ false → unwrap_or o end ≡ end
+pub stop_of : (o : Option ℕ) (end : ℕ) → is_some o ≡ false → unwrap_or o end ≡ end
 stop_of None end whole = refl
 stop_of (Some w) end whole = cc
 

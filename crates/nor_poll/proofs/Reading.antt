@@ -1,12 +1,13 @@
 -- Any number of status reads.
-use Rattle.std.proofs.Common.{◌≡◌, ◌≢◌, ◌+◌, inl, inr, ℕ, refl, sym, ap, subst, ◌∙◌, Bool, true, false, add-one}
+use Rattle.std.proofs.Common.{◌≡◌, ◌≢◌, ◌+◌, ◌<◌, ◌≤◌, inl, inr, ℕ, suc, refl, sym, ap, subst, ◌∙◌, arith, Bool, true, false, add-one, Result, Ok, Err, OnErr, IfErr, IsErrAnd}
 use Rattle.nor_cell.specs.Chip.{ChipState, Job, Idle, Program, Erase, Pausing, Flags, runs, is_held}
-use Rattle.nor_bus.specs.Bus.{BusState, chip_at}
+use Rattle.nor_bus.specs.Bus.{BusState, chip_at, lane, lanes_of}
 use Rattle.nor_bus.specs.Cycles.{BusFails}
-use Rattle.nor_bus.specs.Driven.{EachLane}
+use Rattle.nor_bus.specs.Driven.{Went, Lost, EachLane}
+use Rattle.nor_bus.proofs.Driving.{went_then, lost_then}
 use Rattle.nor_poll.specs.Told.{IsLooked, ShowsStatus, Told, seen}
 use Rattle.nor_poll.specs.Losing.{Darkens}
-use Rattle.nor_poll.specs.Reads.{AfterReads, NoReads, OneMore}
+use Rattle.nor_poll.specs.Reads.{AfterReads, NoReads, OneMore, ReadBy, DarkensReading}
 use Rattle.nor_poll.specs.declared.watch.Seen.{Seen}
 use Rattle.nor_poll.specs.declared.watch.Seen.TheVariants.{Working}
 use Rattle.nor_poll.proofs.Telling.{working_runs}
@@ -43,3 +44,53 @@ dark_by false old new off h = λ c below. inl (ap (λ x. chip_at x c) (h.off_bef
 -- A cycle failed: each chip was cut, or had no power.
 pub darkens : (old new : BusState) → BusFails old new → EachLane Darkens old new
 darkens old new h = dark_by old.power old new refl h
+
+-- ---- reads of all lanes, one after another
+
+-- a fact after an error
+pub on_err : {T E : Type 0} (r : Result T E) (P : Type 0) → P → OnErr r P
+on_err (Ok x) P p = tt
+on_err (Err e) P p = p
+
+-- the lanes stay
+pub moved : (old mid : BusState) (c : ℕ) → lanes_of mid ≡ lanes_of old → c < lanes_of old → c < lanes_of mid
+moved old mid c count below = subst (λ (m : ℕ). c < m) (sym count) below
+
+pub after_then : (s : ChipState) (n : ℕ) (m : ChipState) (k : ℕ) (t : ChipState) → AfterReads s n m → AfterReads m k t → AfterReads s (n + k) t
+after_then s n m k t h NoReads = let e : n ≡ n + 0 = omega arith in subst (λ (i : ℕ). AfterReads s i m) e h
+after_then s n m k t h (OneMore {n = j} {m = x} before look) =
+    let e : suc (n + j) ≡ n + suc j = omega arith in subst (λ (i : ℕ). AfterReads s i t) e (OneMore (after_then s n m j x h before) look)
+
+pub read_one : (a b : BusState) → Went 1 1 a b → EachLane IsLooked a b → ReadBy 1 1 a b
+read_one a b went looked = record { reads = 1; enough = omega arith; few = omega arith; went = went; each = λ c below. OneMore NoReads (looked c below) }
+
+pub read_then : (l m n o k q : ℕ) (a b c : BusState) → k ≤ l + n → m + o ≤ q → ReadBy l m a b → ReadBy n o b c → ReadBy k q a c
+read_then l m n o k q a b c ge le x y =
+    let p = x.enough in
+    let r = y.enough in
+    let s = x.few in
+    let t = y.few in
+    record {
+      reads = x.reads + y.reads;
+      enough = omega (arith, ge, p, r);
+      few = omega (arith, le, s, t);
+      went = went_then x.reads x.reads y.reads y.reads (x.reads + y.reads) (x.reads + y.reads) a b c (omega arith) (omega arith) x.went y.went;
+      each = λ i below. after_then (lane a i) x.reads (lane b i) y.reads (lane c i) (x.each i below) (y.each i (moved a b i x.went.kept.count below));
+    }
+
+-- Power went after some reads.
+pub lost_reading : (l m o q : ℕ) (a b c : BusState) → m + o ≤ q → ReadBy l m a b → Lost o b c → Lost q a c
+lost_reading l m o q a b c le x lost = let s = x.few in lost_then x.reads x.reads o q a b c (omega (arith, le, s)) x.went lost
+
+pub dark_now : (a b : BusState) → EachLane Darkens a b → EachLane DarkensReading a b
+dark_now a b dark = λ c below. (0, record { mid = lane a c; reads = NoReads; dark = dark c below })
+
+pub dark_then : (l m : ℕ) (a b c : BusState) → ReadBy l m a b → EachLane DarkensReading b c → EachLane DarkensReading a c
+dark_then l m a b c x dark = λ i below.
+    let d = dark i (moved a b i x.went.kept.count below) in
+    (x.reads + d.0, record { mid = d.1.mid; reads = after_then (lane a i) x.reads (lane b i) d.0 d.1.mid (x.each i below) d.1.reads; dark = d.1.dark })
+
+-- a fact of the error that was given
+pub if_gave : {T E : Type 0} (r : Result T E) (e : E) (P : E → Type 0) → IsErrAnd r (λ x. x ≡ e) → P e → IfErr r P
+if_gave (Ok x) e P gave p = tt
+if_gave (Err x) e P gave p = subst P (sym gave) p

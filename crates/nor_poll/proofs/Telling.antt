@@ -1,5 +1,5 @@
 -- What one status read tells.
-use Rattle.std.proofs.Common.{◌≡◌, ◌+◌, ◌*◌, ◌<◌, ◌≤◌, ◌⊎◌, inl, inr, ℕ, zero, suc, refl, sym, subst, ap, arith, ◌∙◌, Bool, true, false, List, length, MatchBool, ◌≢◌, slice_set, get_or-set_other, get_or-set_same}
+use Rattle.std.proofs.Common.{◌≡◌, ◌+◌, ◌*◌, ◌<◌, ◌≤◌, ◌⊎◌, inl, inr, ℕ, zero, suc, refl, sym, subst, ap, arith, ◌∙◌, Bool, true, false, List, [], ◌∷◌, length, MatchBool, ◌≢◌, slice_set, get_or-set_other, get_or-set_same}
 use Rattle.std.proofs.lemmas.Bool.{cases_eq}
 use Rattle.std.proofs.Math.ListN.{length-set}
 use Rattle.nor_cell.specs.Bits.{unit_len}
@@ -10,9 +10,13 @@ use Rattle.nor_cell.specs.Steps.{Reads, reads_of}
 use Rattle.nor_cell.specs.Wiring.{is_wiring}
 use Rattle.nor_cell.specs.declared.device.Device.{Device}
 use Rattle.nor_word.specs.Word.{lane_of}
-use Rattle.nor_bus.specs.Bus.{wide}
+use Rattle.nor_cell.specs.declared.geometry.Geometry.{Geometry}
+use Rattle.nor_bus.specs.Bus.{BusState, lane, lanes_of, wide}
+use Rattle.nor_bus.specs.Driven.{IsOwn}
+use Rattle.nor_bus.proofs.Driving.{device_of}
 use Rattle.nor_poll.specs.Register.{status_says}
 use Rattle.nor_poll.specs.Told.{TellsStatus, seen, seen_at, Told}
+use Rattle.nor_poll.proofs.Looking.{looked_by}
 use Rattle.nor_poll.specs.declared.watch.Seen.{Seen}
 use Rattle.nor_poll.specs.declared.watch.Seen.TheVariants.{Working, Ready}
 
@@ -43,7 +47,7 @@ shown true held flags answer h = ap status_says h ∙ busy held
 shown false held flags answer h = ap status_says h ∙ rested held flags.erase flags.program flags.locked
 
 -- what still runs had reads left
-ran : (stuck : Bool) (job : Job) → runs (job_after (look_at stuck job)) ≡ true → (0 < reads_left job) ⊎ (stuck ≡ true)
+pub ran : (stuck : Bool) (job : Job) → runs (job_after (look_at stuck job)) ≡ true → (0 < reads_left job) ⊎ (stuck ≡ true)
 ran true job h = inr refl
 ran false Idle h = cc
 ran false (Program at bytes zero) h = cc
@@ -73,7 +77,7 @@ tells s u answer t reads shows =
     let by = subst (λ (m : Mode). MatchBool (runs t.job) (answer ≡ bit_if 0x40 (is_held t.held)) (ShowsMode m t u answer)) mode h.answers in
     let is : status_says answer ≡ seen (runs t.job) (is_held t.held) t.flags = shown (runs t.job) (is_held t.held) t.flags answer by in
     record {
-      looked = record { cells = h.cells; rest = h.rest };
+      looked = looked_by s u answer t reads;
       told = is;
       had = λ e. ran s.part.stuck s.job (subst (λ (j : Job). runs j ≡ true) job (working_runs (runs t.job) (is_held t.held) t.flags (sym is ∙ e)));
     }
@@ -84,6 +88,10 @@ pub told_by : (device : Device) (s t : ChipState) (it : Seen) (u c : ℕ) (word 
 told_by device s t it u c word same reads is shows =
     let read = subst (λ (d : ℕ). Reads s u (lane_of d word c) t) same reads in
     subst (λ (x : Seen). Told s x t) (sym is) (tells s u (lane_of (unit_len device) word c) t read shows)
+
+-- a lane of a word, by the bytes that a lane has
+pub lane_value : (bytes d k : ℕ) (word : List ℕ) (value : ℕ) → value ≡ lane_of bytes word k → bytes ≡ d → value ≡ lane_of d word k
+lane_value bytes d k word value is same = is ∙ ap (λ (b : ℕ). lane_of b word k) same
 
 -- a wiring has at most four lanes, and they fill the word
 pub wired : (width lanes : ℕ) (device : Device) → is_wiring width lanes device ≡ true → (lanes ≤ 4) × (lanes * unit_len device ≡ width)
@@ -108,3 +116,25 @@ told_more k f lanes it room h e =
       told = λ c below. told_at k c f lanes it (omega arith) h e below (cases_eq c k);
       past = λ c le. let apart : c ≢ k = omega arith in get_or-set_other lanes k c it Ready apart ∙ h.past c (omega arith);
     }
+
+none_at : (k c : ℕ) (f : ℕ → Bool) → ((i : ℕ) → i < k → f i ≡ false) → f k ≡ false → c < k + 1 → (c ≡ k) ⊎ (c ≢ k) → f c ≡ false
+none_at k c f none e below (inl same) = ap f same ∙ e
+none_at k c f none e below (inr apart) = none c (omega arith)
+
+-- one more lane of which it isn't so
+pub none_more : (k : ℕ) (f : ℕ → Bool) → ((i : ℕ) → i < k → f i ≡ false) → f k ≡ false → (c : ℕ) → c < k + 1 → f c ≡ false
+none_more k f none e c below = none_at k c f none e below (cases_eq c k)
+
+-- a lane's answer, where the geometry is the bus's own
+pub lane_read : (width : ℕ) (g : Geometry) (old new : BusState) (u k : ℕ) (word : List ℕ) → IsOwn width g old → k < lanes_of old → Reads (lane old k) u (lane_of (wide (lane old k)) word k) (lane new k)
+    → Reads (lane old k) u (lane_of (unit_len g.device) word k) (lane new k)
+lane_read width g old new u k word own below h =
+    subst (λ (d : ℕ). Reads (lane old k) u (lane_of d word k) (lane new k)) (device_of width g.device old k own.bank below) h
+
+-- nothing is told of any lane but that it is ready
+pub all_ready : (k : ℕ) → seen_at (Ready ∷ Ready ∷ Ready ∷ Ready ∷ []) k ≡ Ready
+all_ready zero = refl
+all_ready (suc zero) = refl
+all_ready (suc (suc zero)) = refl
+all_ready (suc (suc (suc zero))) = refl
+all_ready (suc (suc (suc (suc k)))) = refl

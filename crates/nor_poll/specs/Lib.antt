@@ -1,6 +1,11 @@
 pub mod Counted
 pub mod Losing
+pub mod Polled
 pub mod Reads
 pub mod Register
+pub mod Toggles
+pub mod Rest
 pub mod Told
+pub mod Wait
+pub mod Word
 pub mod Words

@@ -1,7 +1,9 @@
 -- Any number of reads of a chip, one after another.
-use Rattle.std.specs.Prelude.{◌≡◌, ℕ, zero, suc, true}
-use Rattle.nor_cell.specs.Chip.{ChipState, runs}
-use Rattle.nor_poll.specs.Told.{IsLooked}
+use Rattle.std.specs.Prelude.{◌<◌, ◌≤◌, ◌⊎◌, ℕ, zero, suc}
+use Rattle.nor_cell.specs.Chip.{ChipState}
+use Rattle.nor_bus.specs.Bus.{BusState, lane, lanes_of}
+use Rattle.nor_bus.specs.Driven.{Went, EachLane}
+use Rattle.nor_poll.specs.Told.{IsLooked, HasLeft}
 use Rattle.nor_poll.specs.Losing.{Darkens}
 
 -- the chip after n reads
@@ -9,14 +11,39 @@ pub data AfterReads (s : ChipState) : ℕ → ChipState → Type 0 where
   NoReads : AfterReads s zero s
   OneMore : {n : ℕ} {m t : ChipState} → AfterReads s n m → IsLooked m t → AfterReads s (suc n) t
 
--- a job still ran after n reads
+abbrev pub ReadTimes : ℕ → ChipState → ChipState → Type 0
+ReadTimes n s t = AfterReads s n t
+
+-- after n reads the job has reads left, or the chip is stuck
 pub record WorksAfter (n : ℕ) (s : ChipState) : Type 0 where
   pub mid : ChipState
   pub reads : AfterReads s n mid
-  pub working : runs mid.job ≡ true
+  pub left : HasLeft mid
 
 -- power went after n reads
 pub record DarkAfter (n : ℕ) (s t : ChipState) : Type 0 where
   pub mid : ChipState
   pub reads : AfterReads s n mid
   pub dark : Darkens mid t
+
+-- power went after some reads
+abbrev pub DarkensReading : ChipState → ChipState → Type 0
+DarkensReading s t = (n : ℕ) × DarkAfter n s t
+
+-- All cycles of a call were reads that reached the chips: from `least` to `most` of them, and each lane was read as often.
+pub record ReadBy (least most : ℕ) (old new : BusState) : Type 0 where
+  pub reads : ℕ
+  pub enough : least ≤ reads
+  pub few : reads ≤ most
+  pub went : Went reads reads old new
+  pub each : EachLane (ReadTimes reads) old new
+
+-- in some lane the job has reads left, or the chip is stuck
+pub record SomeLeft (bus : BusState) : Type 0 where
+  pub number : ℕ
+  pub there : number < lanes_of bus
+  pub left : HasLeft (lane bus number)
+
+-- Of two reads, or of three where a job had reads left at the first.
+abbrev pub TwoOrLate : BusState → BusState → Type 0
+TwoOrLate old new = ReadBy 2 2 old new ⊎ (ReadBy 3 3 old new × SomeLeft old)

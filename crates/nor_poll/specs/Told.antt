@@ -1,11 +1,13 @@
 -- What a poll tells of a chip.
-use Rattle.std.specs.Prelude.{◌≡◌, ◌<◌, ◌⊎◌, ℕ, Bool, true, List, slice_index_or, if◌then◌else◌}
-use Rattle.nor_cell.specs.Chip.{ChipState, Status, Flags, runs, is_held, reads_left}
+use Rattle.std.specs.Prelude.{◌≡◌, ◌≢◌, ◌<◌, ◌⊎◌, ℕ, Bool, true, false, List, slice_index_or, if◌then◌else◌}
+use Rattle.nor_cell.specs.Chip.{ChipState, Status, Flags, Fault, NoFault, TimeFault, AbortFault, Idle, runs, is_held, reads_left, place}
+use Rattle.nor_cell.specs.Intel.{in_held}
 use Rattle.nor_cell.specs.Look.{look, looked, LooksTo}
-use Rattle.nor_cell.specs.declared.device.Set.TheVariants.{Intel}
+use Rattle.nor_cell.specs.declared.device.Set.{Set}
+use Rattle.nor_cell.specs.declared.device.Set.TheVariants.{Intel, Amd}
 use Rattle.nor_poll.specs.declared.watch.Seen.{Seen}
 use Rattle.nor_poll.specs.declared.watch.Seen.TheVariants.{Working, Ready, Suspended, Broken}
-use Rattle.nor_poll.specs.declared.watch.Broke.TheVariants.{Erase, Program}
+use Rattle.nor_poll.specs.declared.watch.Broke.TheVariants.{Erase, Program, Time, Abort}
 
 -- what is told of lane c
 abbrev pub seen_at : List Seen → ℕ → Seen
@@ -25,17 +27,40 @@ seen working held flags =
     else if held then Suspended
     else Ready
 
--- A read has looked at the chip, and changed no more than a look does.
+-- what is to be told of a chip of set 0002 that runs no job: its fault, and whether the unit that was read lies in its held block
+abbrev pub seen_fault : Fault → Bool → Seen
+seen_fault NoFault here = if here then Suspended else Ready
+seen_fault (TimeFault job) here = Broken Time
+seen_fault AbortFault here = Broken Abort
+
+-- what is to be told of a chip that runs no job, by unit u
+abbrev pub seen_idle : Set → ℕ → ChipState → Seen
+seen_idle Intel u s = seen false (is_held s.held) s.flags
+seen_idle Amd u s = seen_fault s.fault (in_held s.held s.part (place s.part u))
+
+-- A read has looked at the chip, and changed no more than a look does, and the toggle bits of a chip of set 0002.
 pub record IsLooked (s t : ChipState) : Type 0 where
   pub cells : LooksTo s (look s) t.cells
-  pub rest : t ≡ record (looked (look s) s) { cells = t.cells }
+  pub rest : t ≡ record (looked (look s) s) { cells = t.cells; t6 = t.t6; t2 = t.t2 }
+  pub still : s.part.set ≡ Intel → (t.t6 ≡ s.t6) × (t.t2 ≡ s.t2)
+
+-- its job has reads left, or it is stuck
+abbrev pub HasLeft : ChipState → Type 0
+HasLeft s = (0 < reads_left s.job) ⊎ (s.part.stuck ≡ true)
+
+-- The chip went from s to t in a poll of unit u, which told this of it: that it works, which it did at the first read, or else
+-- what it is at after the last.
+pub record ToldAt (u : ℕ) (s : ChipState) (it : Seen) (t : ChipState) : Type 0 where
+  pub had : it ≡ Working → HasLeft s
+  pub idle : it ≢ Working → t.job ≡ Idle
+  pub is : it ≢ Working → it ≡ seen_idle t.part.set u t
 
 -- The chip went from s to t in a poll of one read, which told this of it.
 pub record Told (s : ChipState) (it : Seen) (t : ChipState) : Type 0 where
   pub looked : IsLooked s t
   pub told : it ≡ seen (runs t.job) (is_held t.held) t.flags
   -- a chip that is told to work had reads left, or is stuck
-  pub had : it ≡ Working → (0 < reads_left s.job) ⊎ (s.part.stuck ≡ true)
+  pub had : it ≡ Working → HasLeft s
 
 -- so it is with a chip that shows its status
 abbrev pub TellsStatus : ChipState → Seen → ChipState → Type 0

@@ -4,7 +4,8 @@ ghost use Rattle.nor_cell.specs.Wiring.{is_wiring};
 ghost use Rattle.nor_word.specs.Word.{lane_of};
 ghost use Rattle.nor_bus.specs.Bus.{units_of, lane, lanes_of, fails, IsWired};
 ghost use Rattle.nor_bus.specs.Cycles.{BusFails};
-ghost use Rattle.nor_bus.specs.Driven.{IsOwn, Went, Lost};
+ghost use Rattle.nor_bus.specs.Driven.{IsOwn, Went, Lost, EachLane};
+ghost use Rattle.nor_poll.specs.Reads.{ReadBy, DarkensReading};
 ghost use Rattle.nor_poll.specs.Told.{seen_at, TellsStatus};
 ghost use Rattle.nor_poll.specs.Register.{status_says};
 
@@ -64,7 +65,9 @@ pub fn status_poll<W: BusWord, B: Bus<W>>(bus: &mut B, g: Geometry, at: u32) -> 
     ensures told { IfOk result (λ watch. IsOwn W.WIDTH g (B.state bus.old) → (c : ℕ) → c < lanes_of (B.state bus.old) → TellsStatus (lane (B.state bus.old) c) (seen_at watch.lanes c) (lane (B.state bus.new) c)) }
     ensures past { IfOk result (λ watch. (c : ℕ) → g.lanes ≤ c → seen_at watch.lanes c ≡ Seen.Ready) }
     ensures went { OnOk result (Went 1 1 (B.state bus.old) (B.state bus.new)) }
+    ensures read { OnOk result (ReadBy 1 1 (B.state bus.old) (B.state bus.new)) }
     ensures lost { OnErr result (Lost 1 (B.state bus.old) (B.state bus.new)) }
+    ensures dark { OnErr result (EachLane DarkensReading (B.state bus.old) (B.state bus.new)) }
     ensures fails { OnErr result (BusFails (B.state bus.old) (B.state bus.new)) }
     ensures off { IsErr result ↔ (fails (B.state bus.old) ≡ true) }
     ensures units { units_of (B.state bus.new) ≡ units_of (B.state bus.old) }

@@ -66,6 +66,7 @@ fn found_of(geometry: Geometry, table: &[u8; 512]) -> Result<Found, ProbeError>
     requires few { geometry.lanes ≤ 4 }
     ensures refused { result_err result ≡ option_map QueryRefused (first_error table.now) }
     ensures found { IfOk result (IsFoundBy geometry table.now) }
+    ensures wiring { IfOk result (λ found. found.geometry ≡ geometry) }
     ensures power { IfErr result (λ e. e ≢ LostPower) }
 {
     let query = decode(table)?;
@@ -93,6 +94,7 @@ pub fn probe<W: BusWord, B: Bus<W>>(bus: &mut B) -> Result<Found, ProbeError>
         → result_err result ≡ refusal W.WIDTH (B.state bus.old).lanes }
     ensures found { IfOk result (λ found. AllLanes IsResting (B.state bus.old)
         → IsFoundOn W.WIDTH (B.state bus.old).lanes found) }
+    ensures wiring { IfOk result (λ found. IsTrue (is_wiring W.WIDTH found.geometry.lanes found.geometry.device)) }
 
     // On a well wired bus.
     ensures shown { (g : Geometry) → IsWellWired W.WIDTH g (B.state bus.old)

@@ -1,5 +1,5 @@
 -- Codes to a chip of set 0001 that runs no job.
-use Rattle.std.proofs.Common.{◌≡◌, ◌<◌, ◌%◌, ◌==◌, ℕ, ap, subst, sym, refl, arith, ◌∙◌, if◌then◌else◌, Result, Ok, Err, OnErr, IfErr, IsErrAnd, List}
+use Rattle.std.proofs.Common.{◌≡◌, ◌<◌, ◌%◌, ◌==◌, ℕ, ap, subst, sym, refl, arith, ◌∙◌, if◌then◌else◌, List}
 use Rattle.nor_cell.specs.Bits.{unit_len}
 use Rattle.nor_cell.specs.Chip.{ChipState, Flags, Array, Job, Idle, Step, Rest, runs}
 use Rattle.nor_cell.specs.Look.{suspended}
@@ -12,17 +12,8 @@ use Rattle.nor_cell.specs.declared.device.Device.TheVariants.{X8, X16, X16Byte}
 use Rattle.nor_bus.specs.Driven.{spread, TakesCode}
 use Rattle.nor_poll.specs.Losing.{Darkens, Loses}
 use Rattle.nor_poll.proofs.Losing.{dark_idle}
-use Rattle.nor_set1.specs.Rest.{AtRest, Commands, Settles, settled, no_flags}
-
--- a fact after an error
-pub on_err : {T E : Type 0} (r : Result T E) (P : Type 0) → P → OnErr r P
-on_err (Ok x) P p = tt
-on_err (Err e) P p = p
-
--- a fact of the error that was given
-pub if_gave : {T E : Type 0} (r : Result T E) (e : E) (P : E → Type 0) → IsErrAnd r (λ x. x ≡ e) → P e → IfErr r P
-if_gave (Ok x) e P gave p = tt
-if_gave (Err x) e P gave p = subst P (sym gave) p
+use Rattle.nor_poll.specs.Rest.{AtRest, Settles, settled, no_flags}
+use Rattle.nor_set1.specs.Codes.{Commands}
 
 -- the code is the low byte of what each lane gets
 spread_low : (device : Device) (code : ℕ) → code < 256 → spread (unit_len device) code % 256 ≡ code
@@ -46,11 +37,11 @@ commands s t u code small h rest =
 abbrev pub cleared : ChipState → ChipState
 cleared s = record s { flags = no_flags }
 
-pub rests_cleared : (s m : ChipState) → AtRest s → m ≡ cleared s → AtRest m
-rests_cleared s m rest e = subst (λ (x : ChipState). AtRest x) (sym e) (record { set = rest.set; step = rest.step; job = rest.job })
+pub rests_cleared : (s m : ChipState) → AtRest Intel s → m ≡ cleared s → AtRest Intel m
+rests_cleared s m rest e = subst (λ (x : ChipState). AtRest Intel x) (sym e) (record { set = rest.set; step = rest.step; job = rest.job; resets = refl })
 
 -- errors are cleared, and the array is shown
-pub settles : (s m t : ChipState) (u w : ℕ) → Commands u 0x50 s m → Commands w 0xFF m t → Settles s t
+pub settles : (s m t : ChipState) (u w : ℕ) → Commands u 0x50 s m → Commands w 0xFF m t → Settles Intel s t
 settles s m t u w first second rest =
     let e : m ≡ cleared s = first rest in
     second (rests_cleared s m rest e) ∙ ap (λ (x : ChipState). commanded x w 0xFF) e
@@ -59,14 +50,11 @@ flags_settled : (s : ChipState) (flags : Flags) → s.flags ≡ flags → record
 flags_settled s flags e = ap (λ (f : Flags). record s { mode = Array; flags = f }) e
 
 -- the array is shown, and there was no error
-pub unflagged : (s t : ChipState) (u : ℕ) → Commands u 0xFF s t → AtRest s → s.flags ≡ no_flags → t ≡ settled s
+pub unflagged : (s t : ChipState) (u : ℕ) → Commands u 0xFF s t → AtRest Intel s → s.flags ≡ no_flags → t ≡ settled Intel s
 unflagged s t u first rest e = first rest ∙ flags_settled s no_flags e
 
--- power went before a code, or after the errors were cleared
-pub dark_rest : (p : ℕ) (bytes : List ℕ) (s t : ChipState) → AtRest s → Darkens s t → Loses p bytes s t
-dark_rest p bytes s t rest dark = dark_idle p bytes s s t s.mode s.step s.flags rest.job (λ h. h) refl dark
-
-pub dark_cleared : (p : ℕ) (bytes : List ℕ) (s m t : ChipState) (u : ℕ) → AtRest s → Commands u 0x50 s m → Darkens m t → Loses p bytes s t
+-- power went after the errors were cleared
+pub dark_cleared : (p : ℕ) (bytes : List ℕ) (s m t : ChipState) (u : ℕ) → AtRest Intel s → Commands u 0x50 s m → Darkens m t → Loses p bytes s t
 dark_cleared p bytes s m t u rest first dark =
     let e : m ≡ cleared s = first rest in
     dark_idle p bytes s m t s.mode s.step no_flags rest.job (λ h. cc) e dark

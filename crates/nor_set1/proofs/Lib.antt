@@ -1,6 +1,2 @@
 mod Beginning
 mod Commanding
-mod Four
-mod Programming
-mod Waiting
-mod Wording

@@ -1,3 +1,1 @@
-pub mod Rest
-pub mod Wait
-pub mod Word
+pub mod Codes

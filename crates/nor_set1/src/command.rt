@@ -2,7 +2,9 @@ ghost use Rattle.std.specs.Prelude.{◌≡◌, ◌<◌, ◌≤◌, ◌+◌, ℕ,
 ghost use Rattle.nor_bus.specs.Bus.{units_of, lane, lanes_of, IsWired};
 ghost use Rattle.nor_bus.specs.Driven.{Went, Lost, EachLane};
 ghost use Rattle.nor_poll.specs.Losing.{Darkens};
-ghost use Rattle.nor_set1.specs.Rest.{Commands, Settles, SettlesUnflagged, LosesNone};
+ghost use Rattle.nor_cell.specs.declared.device.Set.TheVariants.{Intel};
+ghost use Rattle.nor_poll.specs.Rest.{Settles, SettlesUnbroken, LosesNone};
+ghost use Rattle.nor_set1.specs.Codes.{Commands};
 
 use nor_bus::{Bus, Off, write_code};
 use nor_cell::Geometry;
@@ -32,8 +34,8 @@ pub fn command<W: BusWord, B: Bus<W>>(bus: &mut B, at: u32, code: u8) -> Result<
 
 // Clears the error bits of every lane, and lets it show its array.
 fn clear_and_show<W: BusWord, B: Bus<W>>(bus: &mut B) -> Result<(), Off>
-    ensures lanes { OnOk result (EachLane Settles (B.state bus.old) (B.state bus.new)) }
-    ensures loses { OnErr result (EachLane LosesNone (B.state bus.old) (B.state bus.new)) }
+    ensures lanes { OnOk result (EachLane (Settles Intel) (B.state bus.old) (B.state bus.new)) }
+    ensures loses { OnErr result (EachLane (LosesNone Intel) (B.state bus.old) (B.state bus.new)) }
     ensures power { OnOk result ((B.state bus.new).power ≡ true) }
     ensures went { OnOk result (Went 2 2 (B.state bus.old) (B.state bus.new)) }
     ensures lost { OnErr result (Lost 2 (B.state bus.old) (B.state bus.new)) }
@@ -47,8 +49,8 @@ fn clear_and_show<W: BusWord, B: Bus<W>>(bus: &mut B) -> Result<(), Off>
 /// Lets every lane show its array after a program, with no error bit set. Where no lane broke off
 /// none is set, and one cycle will do.
 pub fn end_program<W: BusWord, B: Bus<W>>(bus: &mut B, broken: LaneSet) -> Result<(), Off>
-    ensures lanes { OnOk result (EachLane (SettlesUnflagged broken.bits) (B.state bus.old) (B.state bus.new)) }
-    ensures loses { OnErr result (EachLane LosesNone (B.state bus.old) (B.state bus.new)) }
+    ensures lanes { OnOk result (EachLane (SettlesUnbroken Intel broken.bits) (B.state bus.old) (B.state bus.new)) }
+    ensures loses { OnErr result (EachLane (LosesNone Intel) (B.state bus.old) (B.state bus.new)) }
     ensures power { OnOk result ((B.state bus.new).power ≡ true) }
     ensures went { OnOk result (Went (1 + min broken.bits 1) (1 + min broken.bits 1) (B.state bus.old) (B.state bus.new)) }
     ensures lost { OnErr result (Lost 2 (B.state bus.old) (B.state bus.new)) }
@@ -66,10 +68,10 @@ pub fn end_program<W: BusWord, B: Bus<W>>(bus: &mut B, broken: LaneSet) -> Resul
 ///
 /// What it does to a lane holds where the lane's chip is of set 0001, at rest, and runs no job; where
 /// the lanes are in an erase makes no difference to this set. `Off` comes only where a cycle failed,
-/// and leaves every such chip as it was, but for a block under erase.
+/// and leaves the cells, locks, held erase and counters of every such chip, but for a block under erase.
 pub fn settle<W: BusWord, B: Bus<W>>(bus: &mut B, _g: Geometry, _lanes: Lanes) -> Result<(), Off>
-    ensures lanes { OnOk result (EachLane Settles (B.state bus.old) (B.state bus.new)) }
-    ensures loses { OnErr result (EachLane LosesNone (B.state bus.old) (B.state bus.new)) }
+    ensures lanes { OnOk result (EachLane (Settles Intel) (B.state bus.old) (B.state bus.new)) }
+    ensures loses { OnErr result (EachLane (LosesNone Intel) (B.state bus.old) (B.state bus.new)) }
     ensures power { OnOk result ((B.state bus.new).power ≡ true) }
     ensures went { OnOk result (Went 2 2 (B.state bus.old) (B.state bus.new)) }
     ensures lost { OnErr result (Lost 2 (B.state bus.old) (B.state bus.new)) }

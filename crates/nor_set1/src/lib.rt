@@ -5,13 +5,12 @@
 //! `program_word` programs a bus word and tells which lanes broke off; `settle` clears the error bits
 //! and lets every lane show its array. A call asks for no more cycles than its clause says, whatever
 //! the chips are, and is given up where a cycle fails, or where a lane works for ever; then what each
-//! lane holds is bounded by `Loses` of nor_poll.
+//! lane holds is bounded by `Loses` of nor_poll, or by `Tears` where power stayed on.
 //!
 //! It works over any bus, and stands on nor_poll for the polls and on nor_bus for the cycles.
 #![tactic(auto)]
 
 mod command;
-mod wait;
 mod word;
 
 pub use command::settle;

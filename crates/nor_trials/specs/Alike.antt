@@ -6,4 +6,4 @@ use Rattle.nor_cell.specs.declared.device.Device.{Device}
 -- of one device and one size
 pub record IsAlike (wired : Device) (s : ChipState) : Type 0 where
   pub device : s.part.device ≡ wired
-  pub size : length s.cells ≡ 4096
+  pub size : length s.cells ≡ 8192

@@ -136,11 +136,23 @@ fn push_words(bytes: &mut Vec<u8>, geometry: Geometry, word: u16) -> Result<(), 
     Ok(())
 }
 
-/// The first bytes of such a bank: those of the first 1,024 device words of every chip.
-pub fn first_bytes(alloc: Global, geometry: Geometry) -> Result<Vec<u8>, AllocError> {
+fn push_bytes(alloc: Global, geometry: Geometry, words: u16) -> Result<Vec<u8>, AllocError> {
     let mut bytes = Vec::new(alloc);
-    for word in 0..1024 {
+    for word in 0..words {
         push_words(&mut bytes, geometry, word)?;
     }
     Ok(bytes)
+}
+
+/// The first bytes of such a bank: those of the first 1,024 device words of every chip.
+pub fn first_bytes(alloc: Global, geometry: Geometry) -> Result<Vec<u8>, AllocError> {
+    push_bytes(alloc, geometry, 1024)
+}
+
+/// All bytes of such a bank.
+pub fn bank_bytes(alloc: Global, geometry: Geometry) -> Result<Vec<u8>, AllocError> {
+    match geometry.device {
+        Device::X8 | Device::X16Byte => push_bytes(alloc, geometry, CHIP_SIZE),
+        Device::X16 => push_bytes(alloc, geometry, CHIP_SIZE / 2),
+    }
 }

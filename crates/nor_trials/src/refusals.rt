@@ -1,6 +1,7 @@
-//! Banks that probing refuses, and how many cycles it makes until then.
+//! Banks that probing and starting refuse, and how many cycles probing makes until then.
 
 use crate::banks::{Wiring, load_tables, table};
+use nor_bank::Bank;
 use nor_bus::{Bus, SimBank};
 use nor_cell::Device::{self, X8, X16, X16Byte};
 use nor_cell::{Chip, Geometry, Set};
@@ -18,15 +19,30 @@ fn wiring(width: u8, lanes: u8, device: Device) -> Wiring {
     }
 }
 
-// Why a bank is refused, and the cycles that probing made.
-fn refusal_on<W: BusWord, C: Chip + Drop>(bank: SimBank<W, C>) -> (Option<ProbeError>, u64) {
-    let mut bank = bank;
-    let refusal = probe::<W, SimBank<W, C>>(&mut bank).err();
-    (refusal, bank.cycles())
+// Why a bank is refused, and the cycles that probing made. Starting it is refused so too, and gives its
+// bus back after as many more.
+fn refusal_on<W: BusWord, C: Chip + Drop>(
+    rt: &impl Abort,
+    bus: SimBank<W, C>,
+) -> (Option<ProbeError>, u64) {
+    let mut bus = bus;
+    let refusal = probe::<W, SimBank<W, C>>(&mut bus).err();
+    let cycles = bus.cycles();
+    match Bank::<W, SimBank<W, C>>::start(bus) {
+        Ok(bank) => {
+            let _bus = bank.stop();
+            assert!(rt; refusal.is_none());
+        }
+        Err((bus, error)) => {
+            assert_eq!(rt; refusal, Some(error));
+            assert_eq!(rt; bus.cycles(), cycles.wrapping_mul(2));
+        }
+    }
+    (refusal, cycles)
 }
 
-fn refusal(bank: Loaded) -> (Option<ProbeError>, u64) {
-    with_bank!(bank, bank => refusal_on(bank))
+fn refusal(rt: &impl Abort, bank: Loaded) -> (Option<ProbeError>, u64) {
+    with_bank!(bank, bank => refusal_on(rt, bank))
 }
 
 fn differs(lane: u8, offset: u16, left: u8, right: u8) -> Option<ProbeError> {
@@ -54,7 +70,7 @@ fn a_table_without_q_is_no_answer(rt: HostRuntime) -> Result<(), Fail> {
             wiring(width, lanes, device),
             &[without_q; 4],
         )?;
-        assert_eq!(rt; refusal(bank), (Some(ProbeError::NoAnswer), cycles));
+        assert_eq!(rt; refusal(&rt, bank), (Some(ProbeError::NoAnswer), cycles));
     }
     Ok(())
 }
@@ -72,21 +88,24 @@ fn the_first_difference_of_the_lowest_lane_is_named(rt: HostRuntime) -> Result<(
         wiring(2, 2, X8),
         &[same, other_volts, same, same],
     )?;
-    assert_eq!(rt; refusal(two), (differs(1, 0x1B, 0x27, 0x30), 18));
+    assert_eq!(rt; refusal(&rt, two), (differs(1, 0x1B, 0x27, 0x30), 18));
     let four = load_tables(
         &rt,
         rt.alloc(),
         wiring(8, 4, X16),
         &[same, other_end, other_volts, other_volts],
     )?;
-    assert_eq!(rt; refusal(four), (differs(2, 0x1B, 0x27, 0x30), 18));
+    assert_eq!(rt; refusal(&rt, four), (differs(2, 0x1B, 0x27, 0x30), 18));
     let at_the_end = load_tables(
         &rt,
         rt.alloc(),
         wiring(4, 2, X16),
         &[same, other_end, same, same],
     )?;
-    assert_eq!(rt; refusal(at_the_end), (differs(1, 0x1FF, 0x00, 0x07), 516));
+    assert_eq!(rt;
+        refusal(&rt, at_the_end),
+        (differs(1, 0x1FF, 0x00, 0x07), 516)
+    );
     Ok(())
 }
 
@@ -102,6 +121,9 @@ fn a_common_table_is_refused_as_decoding_says(rt: HostRuntime) -> Result<(), Fai
             size: 8192,
         },
     };
-    assert_eq!(rt; refusal(bank), (Some(ProbeError::Query(mismatch)), 516));
+    assert_eq!(rt;
+        refusal(&rt, bank),
+        (Some(ProbeError::Query(mismatch)), 516)
+    );
     Ok(())
 }

@@ -1,6 +1,8 @@
-//! Every wiring is found, and its bank can be read.
+//! Every wiring is found, and its bank can be started and read.
 
 use crate::banks::{Wiring, first_bytes, load};
+use crate::held::start_on;
+use nor_array::Reply;
 use nor_bank::read_range;
 use nor_bus::{Bus, SimBank};
 use nor_cell::Device::{self, X8, X16, X16Byte};
@@ -67,6 +69,26 @@ fn reads<W: BusWord, B: Bus<W>>(
     Ok(())
 }
 
+// The same of a bank that was started.
+fn starts<W: BusWord, C: Chip + Drop>(
+    rt: &impl Abort,
+    alloc: Global,
+    bus: SimBank<W, C>,
+    geometry: Geometry,
+    words: u64,
+) -> Result<(), Fail> {
+    let bytes = first_bytes(alloc, geometry)?;
+    let mut bank = start_on::<W, SimBank<W, C>>(rt, bus)?;
+    let started = bank.bus().cycles();
+    let mut range = [0; LEN];
+    assert_eq!(rt; bank.read(1, FROM, &mut range), Reply::Done);
+    assert_eq!(rt; bytes.get(0xFD..0xFD + LEN), Some(range.as_slice()));
+    assert_eq!(rt; bank.bus().cycles().wrapping_sub(started), words);
+    let bus = bank.stop();
+    assert_eq!(rt; bus.failed(), 0);
+    Ok(())
+}
+
 fn tries<W: BusWord, C: Chip + Drop>(
     rt: &impl Abort,
     alloc: Global,
@@ -77,11 +99,12 @@ fn tries<W: BusWord, C: Chip + Drop>(
 ) -> Result<(), Fail> {
     let mut bank = bank;
     finds::<W, SimBank<W, C>>(rt, &mut bank, geometry, cycles)?;
-    reads::<W, SimBank<W, C>>(rt, alloc, &mut bank, geometry, words)
+    reads::<W, SimBank<W, C>>(rt, alloc, &mut bank, geometry, words)?;
+    starts::<W, C>(rt, alloc, bank, geometry, words)
 }
 
 #[test]
-fn each_wiring_is_found_and_read(rt: HostRuntime) -> Result<(), Fail> {
+fn each_wiring_is_found_started_and_read(rt: HostRuntime) -> Result<(), Fail> {
     for set in [Set::Intel, Set::Amd] {
         for (width, lanes, device, cycles, words) in WIRINGS {
             let geometry = Geometry { lanes, device };

@@ -15,7 +15,7 @@ use std::process::Abort;
 use std::test::Fail;
 
 // The width of the bus word, the lanes and their device.
-const WIRINGS: [(u8, u8, Device); 9] = [
+pub const WIRINGS: [(u8, u8, Device); 9] = [
     (1, 1, X8),
     (1, 1, X16Byte),
     (2, 2, X8),
@@ -28,12 +28,12 @@ const WIRINGS: [(u8, u8, Device); 9] = [
 ];
 
 // A word of these chips shows working for at most 2^6 reads, and a driver makes 16 more.
-const LIMIT: u32 = 80;
+pub const LIMIT: u32 = 80;
 
-const NO_LANE: LaneSet = LaneSet { bits: 0 };
+pub const NO_LANE: LaneSet = LaneSet { bits: 0 };
 
 // A word that differs in each byte.
-fn counting<W: BusWord>(first: u8) -> W {
+pub fn counting<W: BusWord>(first: u8) -> W {
     let mut word = W::splat(first);
     for k in 0..W::WIDTH {
         word = word.with_byte(k, first.wrapping_add(k));
@@ -42,7 +42,7 @@ fn counting<W: BusWord>(first: u8) -> W {
 }
 
 // Each byte of a word with these bits too.
-fn with_bits<W: BusWord>(word: W, bits: u8) -> W {
+pub fn with_bits<W: BusWord>(word: W, bits: u8) -> W {
     let mut wider = word;
     for k in 0..W::WIDTH {
         wider = wider.with_byte(k, word.byte(k) | bits);
@@ -50,7 +50,7 @@ fn with_bits<W: BusWord>(word: W, bits: u8) -> W {
     wider
 }
 
-fn reads<W: BusWord, B: Bus<W>>(rt: &impl Abort, bus: &mut B, at: u32, word: W) {
+pub fn reads<W: BusWord, B: Bus<W>>(rt: &impl Abort, bus: &mut B, at: u32, word: W) {
     let read = read_word::<W, B>(bus, at);
     assert!(rt; read.is_ok_and(|read| read.equals(word)), "at {at}");
 }
@@ -87,7 +87,7 @@ fn tries<W: BusWord>(
         weak_lane: None,
         stuck_lane: None,
     };
-    let mut bank = make_bank::<W>(rt, alloc, setup)?;
+    let mut bank = make_bank::<W, Intel>(rt, alloc, setup)?;
     let cycles = u64::from(pace) + 5;
     programs(rt, &mut bank, geometry, 7, counting::<W>(0x70), cycles);
     reads(rt, &mut bank, 7, counting::<W>(0x70));
@@ -148,7 +148,7 @@ fn goes_off_at_each<W: BusWord>(
         weak_lane: None,
         stuck_lane: None,
     };
-    let mut bank = make_bank::<W>(rt, alloc, setup)?;
+    let mut bank = make_bank::<W, Intel>(rt, alloc, setup)?;
     let new = counting::<W>(0x30);
     for after in [0, 1, 2] {
         goes_off(rt, &mut bank, geometry, after, W::splat(0xFF));
@@ -168,7 +168,7 @@ fn power_goes_at_each_cycle_of_a_word(rt: HostRuntime) -> Result<(), Fail> {
     goes_off_at_each::<u64>(&rt, rt.alloc(), 4, X16)
 }
 
-const TWO_CHIPS: Geometry = Geometry {
+pub const TWO_CHIPS: Geometry = Geometry {
     lanes: 2,
     device: X16,
 };
@@ -185,7 +185,7 @@ fn two_chips(
         weak_lane,
         stuck_lane,
     };
-    make_bank::<u32>(rt, alloc, setup)
+    make_bank::<u32, Intel>(rt, alloc, setup)
 }
 
 #[test]

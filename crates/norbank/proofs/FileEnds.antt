@@ -52,7 +52,7 @@ chip_there file zero c below = absurd (omega arith)
 chip_there file (suc n) c below = chip_more file n c (omega arith) (λ less. chip_there file n c less) (cases_eq c n)
 
 -- the chips that a file stands for are those that are named here
-chips_are : (file : List ℕ) (width : ℕ) (chips : List ChipState) → IsImageOf file width chips → chips ≡ chips_of_file file
+pub chips_are : (file : List ℕ) (width : ℕ) (chips : List ChipState) → IsImageOf file width chips → chips ≡ chips_of_file file
 chips_are file width chips image =
     let n = lanes_of_file file in
     let size : length chips ≡ length (chips_of_file file) = image.count ∙ sym (chips_length file n) in

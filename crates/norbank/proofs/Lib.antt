@@ -4,3 +4,6 @@ pub mod Piecewise
 pub mod Putting
 pub mod Statuses
 pub mod WordLemmas
+mod RunStatuses
+mod RunStages
+mod RunDone

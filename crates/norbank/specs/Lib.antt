@@ -1,6 +1,8 @@
 pub mod Answering
 pub mod Endings
 pub mod Open
+pub mod Ran
+pub mod Runs
 pub mod Says
 pub mod Status
 pub mod Text

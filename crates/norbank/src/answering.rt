@@ -75,7 +75,7 @@ fn say_made<K: Sink>(code: u8, head: &[u8], tail: Result<String, AllocError>, ou
 }
 
 // Says why probing refuses the bank.
-fn say_unfound<K: Sink>(alloc: Global, error: ProbeError, out: &mut K) -> Status
+pub fn say_unfound<K: Sink>(alloc: Global, error: ProbeError, out: &mut K) -> Status
     requires { error ≢ LostPower }
     ensures says { SaysOrLacks (unfound_ending error) (took (K.taken out.old) (K.taken out.new) (K.faults out.old) (K.faults out.new)) result.code }
     ensures later { K.faults out.old ≤ K.faults out.new }

@@ -46,7 +46,7 @@ fn answer_loaded<K: Sink>(alloc: Global, loaded: Loaded, task: Task, out: &mut K
 }
 
 // Says why no bank is made of a file.
-fn say_refused<K: Sink>(error: ImageError, out: &mut K) -> Status
+pub fn say_refused<K: Sink>(error: ImageError, out: &mut K) -> Status
     ensures says { Says (refused_ending error) (took (K.taken out.old) (K.taken out.new) (K.faults out.old) (K.faults out.new)) result.code }
     ensures later { K.faults out.old ≤ K.faults out.new }
 {

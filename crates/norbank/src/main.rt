@@ -1,17 +1,20 @@
-//! norbank: reads banks of parallel NOR flash chips from their images.
+//! norbank: reads and programs banks of parallel NOR flash chips from their images.
 //!
 //! `main` hands the words, the files and the output to `quiet`, which does the work and carries the
 //! promises: how each command ends, with which text and status, by the words and the bytes of the
-//! file, as `specs/Endings.antt` says. `words` reads the words, `loading` makes a bank of the file,
-//! `answering` probes the bank and does what is asked of it, `printing` puts bytes as text. It stands
-//! on nor_image for the file, on nor_probe, nor_show and nor_bank for the bank, and on nor_io for
-//! files and output.
+//! files, as `specs/Endings.antt` and `specs/Runs.antt` say. `words` reads the words, `loading` makes a
+//! bank of the file, `answering` probes the bank and does what is asked of it, `printing` puts bytes as
+//! text; `running` runs a script on a bank and saves it, `script` says what is wrong with a script. It
+//! stands on nor_image for the file, on nor_probe, nor_show and nor_bank for the bank, on nor_script and
+//! nor_run for scripts, and on nor_io for files and output.
 #![tactic(auto)]
 
 mod answering;
 mod loading;
 mod printing;
 mod quiet;
+mod running;
+mod script;
 mod status;
 #[cfg(test)]
 mod tests;

@@ -1,13 +1,17 @@
-ghost use Rattle.std.specs.Prelude.{◌≡◌, ◌⊎◌, ◌≤◌, ◌^◌, ℕ, List, length, Some};
+ghost use Rattle.std.specs.Prelude.{◌≡◌, ◌≢◌, ◌⊎◌, ◌≤◌, ◌^◌, ℕ, List, length, Some};
 ghost use Rattle.nor_io.specs.Files.{FileMap, Rose};
+ghost use Rattle.nor_script.specs.declared.line.Line.{Line};
 ghost use Rattle.norbank.specs.Answering.{CanAnswer, IsDone};
 ghost use Rattle.norbank.specs.Endings.{ends};
 ghost use Rattle.norbank.specs.Open.{PrintsImage, ShowsImage};
+ghost use Rattle.norbank.specs.Ran.{RanImage, AreRunnable, IsRunDone};
+ghost use Rattle.norbank.specs.Runs.{RunEnds, shelved};
 ghost use Rattle.norbank.specs.Says.{Says, TaskEnds, took};
 ghost use Rattle.norbank.specs.Text.{usage, not_built};
 ghost use Rattle.norbank.specs.Words.{word_at, asked};
 
 use crate::loading::answer_file;
+use crate::running::run;
 use crate::status::{Status, say, say_line};
 use crate::words::{Command, Task, command_of, word};
 use nor_io::{LoadError, Shelf, Sink};
@@ -39,8 +43,9 @@ fn answer_named<H: Shelf, K: Sink>(
 /// What the program does, but for `race`: the words after its name ask for it, images come from the
 /// shelf, and the text goes to the sink. It always returns.
 ///
-/// `read IMAGE ADDR LEN` prints bytes of a bank, `show IMAGE` what it is. Today the other commands
-/// answer that they aren't built.
+/// `read IMAGE ADDR LEN` prints bytes of a bank, `show IMAGE` what it is. `run IMAGE SCRIPT` runs the
+/// commands of a script on it, prints a report and saves the bank. Today the other commands, and scripts
+/// and banks that `run` isn't built for, answer that they aren't built.
 pub fn quiet<H: Shelf, K: Sink>(
     alloc: Global,
     words: &[String],
@@ -70,10 +75,20 @@ pub fn quiet<H: Shelf, K: Sink>(
 
     // Status 7 comes only where a count of faults rose.
     ensures fault { result.code ≡ 7 → Rose (H.faults shelf.old) (H.faults shelf.new) ⊎ Rose (K.faults out.old) (K.faults out.new) }
-    ensures same { H.files shelf.new ≡ H.files shelf.old }
+
+    // A script is run on the bank of an image, or stops as the files under both names say.
+    ensures run { asked words.now ≡ Command.Run → RunEnds (word_at words.now 1) (word_at words.now 2) (shelved (H.files shelf.old) (H.files shelf.new) (H.faults shelf.old) (H.faults shelf.new)) (took (K.taken out.old) (K.taken out.new) (K.faults out.old) (K.faults out.new)) result.code }
+    ensures ran { asked words.now ≡ Command.Run → (result.code ≡ 0) ⊎ (result.code ≡ 6) → RanImage (word_at words.now 1) (word_at words.now 2) (shelved (H.files shelf.old) (H.files shelf.new) (H.faults shelf.old) (H.faults shelf.new)) (took (K.taken out.old) (K.taken out.new) (K.faults out.old) (K.faults out.new)) result.code }
+    ensures done { (files : FileMap) (file text : List ℕ) (lines : List Line) → asked words.now ≡ Command.Run → H.files shelf.old ≡ Some files
+        → AreRunnable files (word_at words.now 1) (word_at words.now 2) file text lines → IsRunDone (shelved (H.files shelf.old) (H.files shelf.new) (H.faults shelf.old) (H.faults shelf.new)) (took (K.taken out.old) (K.taken out.new) (K.faults out.old) (K.faults out.new)) result.code }
+
+    // The files change only where a script was run, with status 0 or 6, and then only under the image's name.
+    ensures same { asked words.now ≢ Command.Run → H.files shelf.new ≡ H.files shelf.old }
+    ensures kept { result.code ≢ 0 → result.code ≢ 6 → H.files shelf.new ≡ H.files shelf.old }
 {
     match command_of(words) {
         Command::OfImage(task) => answer_named(alloc, word(words, 1), task, shelf, out),
+        Command::Run => run(alloc, word(words, 1), word(words, 2), shelf, out),
         Command::Unbuilt => say(11, b"not built\n", out),
         Command::Unknown => say(2, USAGE, out),
     }

@@ -22,7 +22,7 @@ pub fn put_text<K: Sink>(text: &[u8], out: &mut K) -> Result<(), SinkError>
 }
 
 // Puts one text and then another.
-fn put_both<K: Sink>(first: &[u8], second: &[u8], out: &mut K) -> Result<(), SinkError>
+pub fn put_both<K: Sink>(first: &[u8], second: &[u8], out: &mut K) -> Result<(), SinkError>
     ensures puts { PutsText (first.now ++ second.now) (took (K.taken out.old) (K.taken out.new) (K.faults out.old) (K.faults out.new)) result }
     ensures later { K.faults out.old ≤ K.faults out.new }
 {
@@ -33,7 +33,7 @@ fn put_both<K: Sink>(first: &[u8], second: &[u8], out: &mut K) -> Result<(), Sin
 }
 
 // Puts a text, something behind it, and a newline.
-fn put_line<K: Sink>(head: &[u8], tail: &[u8], out: &mut K) -> Result<(), SinkError>
+pub fn put_line<K: Sink>(head: &[u8], tail: &[u8], out: &mut K) -> Result<(), SinkError>
     ensures puts { PutsText (line_of head.now tail.now) (took (K.taken out.old) (K.taken out.new) (K.faults out.old) (K.faults out.new)) result }
     ensures later { K.faults out.old ≤ K.faults out.new }
 {

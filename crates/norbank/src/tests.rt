@@ -1,5 +1,6 @@
 //! The program over shelves and sinks in memory: banks of each kind, and each refusal.
 mod images;
+mod runs;
 
 use crate::quiet::quiet;
 use images::{
@@ -239,10 +240,7 @@ fn words_that_are_no_form_are_usage(rt: HostRuntime) -> Result<(), Fail> {
             true
         );
     }
-    let unbuilt: [Case; 2] = [
-        (&["run", "bank", "script"], 11, b"not built\n"),
-        (&["drill", "10"], 11, b"not built\n"),
-    ];
+    let unbuilt: [Case; 1] = [(&["drill", "10"], 11, b"not built\n")];
     expect(&rt, alloc, b"", &unbuilt)?;
     Ok(())
 }

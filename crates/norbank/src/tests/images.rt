@@ -28,8 +28,27 @@ const TOP: Table = [
     0x01, 0x00, 0x08, 0x00, 0x00, 0x00, 0x00, 0x00, 0x03,
 ];
 
+// The table with zeros at the two words that say whether it offers suspend and locks.
+fn without(table: Table, suspend: usize, locks: usize) -> Table {
+    let mut table = table;
+    for word in [suspend, locks] {
+        if let Some(there) = table.get_mut(word.saturating_sub(0x10)) {
+            *there = 0;
+        }
+    }
+    table
+}
+
+/// What the cells of a chip hold.
+#[derive(Clone, Copy)]
+enum Cells {
+    Rising,
+    Falling,
+    Ones,
+}
+
 /// A bank: the bus width, the device's code and the lanes, its tables and the bytes of each chip, and
-/// whether lane 1's cells fall from 255, as the other lanes' rise from 0.
+/// what the cells of lane 1 and of the others hold.
 #[derive(Clone, Copy)]
 pub struct Image {
     width: u8,
@@ -37,7 +56,8 @@ pub struct Image {
     lanes: u8,
     table: Table,
     size: u32,
-    falls: bool,
+    cells: Cells,
+    lane_1: Cells,
 }
 
 // A bank of chips of 8 KiB whose cells rise.
@@ -48,7 +68,8 @@ fn of_chips(width: u8, device: u8, lanes: u8, table: Table) -> Image {
         lanes,
         table,
         size: 8192,
-        falls: false,
+        cells: Cells::Rising,
+        lane_1: Cells::Rising,
     }
 }
 
@@ -74,7 +95,7 @@ pub fn one_amd_in_byte_mode() -> Image {
 
 pub fn two_x8() -> Image {
     Image {
-        falls: true,
+        lane_1: Cells::Falling,
         ..of_chips(2, 0, 2, INTEL)
     }
 }
@@ -86,6 +107,38 @@ pub fn top_boot() -> Image {
     }
 }
 
+// The same with all cells ones.
+fn all_ones(image: Image) -> Image {
+    Image {
+        cells: Cells::Ones,
+        lane_1: Cells::Ones,
+        ..image
+    }
+}
+
+/// One chip of set 0001 without suspend and locks.
+pub fn one_plain() -> Image {
+    of_chips(2, 1, 1, without(INTEL, 0x36, 0x36))
+}
+
+/// Two chips of set 0001 in bytes, without suspend and locks.
+pub fn two_plain_x8() -> Image {
+    Image {
+        lane_1: Cells::Falling,
+        ..of_chips(2, 0, 2, without(INTEL, 0x36, 0x36))
+    }
+}
+
+/// Four chips of set 0002 without suspend and locks, all ones.
+pub fn four_plain_amd() -> Image {
+    all_ones(of_chips(8, 1, 4, without(AMD, 0x37, 0x3A)))
+}
+
+/// One chip of set 0002 in byte mode, without suspend and locks, all ones.
+pub fn one_plain_amd_in_byte_mode() -> Image {
+    all_ones(of_chips(1, 2, 1, without(AMD, 0x37, 0x3A)))
+}
+
 fn push_zeros(file: &mut Vec<u8>, count: u32) -> Result<(), AllocError> {
     for _ in 0..count {
         file.push(0)?;
@@ -94,22 +147,26 @@ fn push_zeros(file: &mut Vec<u8>, count: u32) -> Result<(), AllocError> {
 }
 
 // The cells of a chip.
-fn push_cells(file: &mut Vec<u8>, size: u32, falls: bool) -> Result<(), AllocError> {
+fn push_cells(file: &mut Vec<u8>, size: u32, cells: Cells) -> Result<(), AllocError> {
     for place in 0..size {
         let rise = (place % 256) as u8;
-        file.push(if falls { 255 - rise } else { rise })?;
+        file.push(match cells {
+            Cells::Rising => rise,
+            Cells::Falling => 255 - rise,
+            Cells::Ones => 0xFF,
+        })?;
     }
     Ok(())
 }
 
 // Paces 2, 4 and 2, and no weak places.
-fn push_lane(file: &mut Vec<u8>, image: &Image, falls: bool) -> Result<(), AllocError> {
+fn push_lane(file: &mut Vec<u8>, image: &Image, cells: Cells) -> Result<(), AllocError> {
     file.extend_from_slice(&[2, 0, 0, 0, 4, 0, 0, 0, 2, 0, 0, 0, 0, 0, 0, 0, 0, 0, 0, 0])?;
     push_zeros(file, 0x10)?;
     file.extend_from_slice(&image.table)?;
     push_zeros(file, 512 - 0x10 - 57)?;
     file.extend_from_slice(&image.size.to_le_bytes())?;
-    push_cells(file, image.size, falls)
+    push_cells(file, image.size, cells)
 }
 
 pub fn file_of(alloc: Global, image: Image) -> Result<Vec<u8>, AllocError> {
@@ -117,7 +174,8 @@ pub fn file_of(alloc: Global, image: Image) -> Result<Vec<u8>, AllocError> {
     file.extend_from_slice(b"NORBANK1")?;
     file.extend_from_slice(&[image.width, image.device, image.lanes, 0])?;
     for lane in 0..image.lanes {
-        push_lane(&mut file, &image, image.falls && lane == 1)?;
+        let cells = if lane == 1 { image.lane_1 } else { image.cells };
+        push_lane(&mut file, &image, cells)?;
     }
     Ok(file)
 }

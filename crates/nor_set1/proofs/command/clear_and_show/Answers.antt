@@ -3,8 +3,10 @@ use Rattle.nor_bus.specs.Bus.{lane}
 use Rattle.nor_bus.specs.Driven.{Lost, EachLane}
 use Rattle.nor_bus.proofs.Driving.{went_then, lost_then}
 use Rattle.nor_bus.proofs.Sizes.{bus_units}
-use Rattle.nor_set1.specs.Rest.{LosesNone}
-use Rattle.nor_set1.proofs.Commanding.{on_err, settles, dark_cleared}
+use Rattle.nor_cell.specs.declared.device.Set.TheVariants.{Intel}
+use Rattle.nor_poll.specs.Rest.{LosesNone}
+use Rattle.nor_poll.proofs.Reading.{on_err}
+use Rattle.nor_set1.proofs.Commanding.{settles, dark_cleared}
 use Rattle.nor_set1.proofs.command.clear_and_show.Goals as goal
 
 pub returns-in_err-command-2-clause-loses : goal.returns-in_err-command-2-clause-loses
@@ -14,7 +16,7 @@ returns-in_err-command-2-clause-loses g c =
     let new = g.B.Bus.state c.command-2.new.bus in
     let size = bus_units g.W.BusWord.WIDTH old c.command.ensures.wired in
     let count = c.in_ok-command.ensures.went.kept.count in
-    on_err c.from_residual-in_err-command-2.result (EachLane LosesNone old new) (λ k below rest.
+    on_err c.from_residual-in_err-command-2.result (EachLane (LosesNone Intel) old new) (λ k below rest.
     dark_cleared 0 [] (lane old k) (lane mid k) (lane new k) 0 rest (c.in_ok-command.ensures.lanes (omega arith) k below) (c.in_err-command-2.ensures.dark k (subst (λ (n : ℕ). k < n) (sym count) below)))
 
 pub returns-in_err-command-2-clause-lost : goal.returns-in_err-command-2-clause-lost

@@ -1,0 +1,111 @@
+-- Programming a word, by the calls of either set.
+use Rattle.std.specs.Prelude.{◌≡◌, ◌<◌, ◌≤◌, ◌+◌, ◌*◌, ℕ, List, Bool, true, false}
+use Rattle.nor_cell.specs.Bits.{unit_bytes}
+use Rattle.nor_cell.specs.Chip.{ChipState, Mode, Array, Status, Rest, NoFault, Program, has_blocks, block_of, is_locked, place}
+use Rattle.nor_cell.specs.Intel.{held_off, in_held}
+use Rattle.nor_cell.specs.declared.device.Set.{Set}
+use Rattle.nor_cell.specs.declared.device.Set.TheVariants.{Intel, Amd}
+use Rattle.nor_cell.specs.declared.geometry.Geometry.{Geometry}
+use Rattle.nor_bus.specs.Bus.{BusState, lane, units_of}
+use Rattle.nor_bus.specs.Driven.{IsOwn, Went, Lost}
+use Rattle.nor_poll.specs.Losing.{Tears, Loses}
+use Rattle.nor_poll.specs.Rest.{AtRest, settled, cleared_flags}
+use Rattle.nor_poll.specs.Words.{EachPart, word_reads, unit_breaks, StoresUnit, OnlyClears, HoldsUnit}
+use Rattle.nor_poll.specs.declared.lanes.Halt.{Halt}
+use Rattle.nor_poll.specs.declared.lanes.Halt.TheVariants.{Off, Stuck}
+use Rattle.nor_poll.specs.declared.watch.Seen.{Seen}
+use Rattle.nor_poll.specs.declared.watch.Seen.TheVariants.{Working, Ready, Suspended, Broken}
+
+-- what a command is taken in: set 0002 shows the array, and no fault stands
+abbrev pub TakesCommands : Set → ChipState → Type 0
+TakesCommands Intel s = Unit {0}
+TakesCommands Amd s = (s.mode ≡ Array) × (s.fault ≡ NoFault)
+
+-- A chip of the set that would program unit u: at rest, the unit's block not locked, and no held erase in the way.
+pub record TakesProgram (kind : Set) (u : ℕ) (s : ChipState) : Type 0 where
+  pub rest : AtRest kind s
+  pub takes : TakesCommands kind s
+  pub blocks : has_blocks s.part.blocks ≡ true
+  pub unlocked : is_locked s (block_of s u) ≡ false
+  pub free : held_off s (block_of s u) ≡ false
+  -- so it is where the blocks follow each other; set 0002 shows it in what it answers
+  pub outside : kind ≡ Amd → in_held s.held s.part (place s.part u) ≡ false
+
+-- what the set shows after a program
+abbrev pub work_mode : Set → Mode
+work_mode Intel = Status
+work_mode Amd = Array
+
+-- the chip programs these bytes from place p on
+abbrev pub programming : Set → ℕ → List ℕ → ℕ → ChipState → ChipState
+programming kind p bytes left s = record s { mode = work_mode kind; step = Rest; flags = cleared_flags kind s.flags; job = Program p bytes left }
+
+-- the chip began to program v at unit u
+abbrev pub BeginsWord : Set → ℕ → ℕ → ChipState → ChipState → Type 0
+BeginsWord kind u v s t = TakesProgram kind u s → t ≡ programming kind (place s.part u) (unit_bytes s.part.device v) (word_reads s) s
+
+-- Unit u has become old AND v, which is v where v has no bit that it lacked; or bits between, where it broke off. All else
+-- is as before, but for the toggle bits of set 0002; the array is shown, and no error stands.
+pub record WordDone (kind : Set) (u v : ℕ) (s t : ChipState) : Type 0 where
+  pub cells : StoresUnit u v s t.cells
+  pub holds : unit_breaks u v s ≡ false → OnlyClears s.part u v s.cells → HoldsUnit s.part u v t.cells
+  pub rest : t ≡ record (settled kind s) { cells = t.cells; t6 = t.t6; t2 = t.t2 }
+  pub still : kind ≡ Intel → (t.t6 ≡ s.t6) × (t.t2 ≡ s.t2)
+
+abbrev pub ProgramsWord : Set → ℕ → ℕ → ChipState → ChipState → Type 0
+ProgramsWord kind u v s t = TakesProgram kind u s → WordDone kind u v s t
+
+-- a bit tells whether the chip broke off
+abbrev pub TellsBroken : Set → ℕ → Bool → ℕ → ChipState → Type 0
+TellsBroken kind u bit v s = TakesProgram kind u s → bit ≡ unit_breaks u v s
+
+-- the chip isn't stuck, and shows a word working for so many reads at most
+pub record EndsWithin (kind : Set) (u most : ℕ) (s : ChipState) : Type 0 where
+  pub takes : TakesProgram kind u s
+  pub free : s.part.stuck ≡ false
+  pub reads : word_reads s ≤ most
+
+-- power went: unit u has bits between
+abbrev pub LosesWord : Set → ℕ → ℕ → ChipState → ChipState → Type 0
+LosesWord kind u v s t = TakesProgram kind u s → Loses (place s.part u) (unit_bytes s.part.device v) s t
+
+-- another lane was stuck, or this one: unit u has bits between
+abbrev pub TearsWord : Set → ℕ → ℕ → ChipState → ChipState → Type 0
+TearsWord kind u v s t = TakesProgram kind u s → Tears (place s.part u) (unit_bytes s.part.device v) s t
+
+-- a lane that is read working so often is stuck
+abbrev pub IsStuckBy : Set → ℕ → ℕ → ChipState → Type 0
+IsStuckBy kind u limit s = TakesProgram kind u s → word_reads s < limit → s.part.stuck ≡ true
+
+-- ---- how many cycles a call makes
+
+-- at most, with so many polls
+abbrev pub word_most : Set → ℕ → ℕ
+word_most Intel limit = limit + 5
+word_most Amd limit = 2 * limit + 6
+
+-- at most, where no lane breaks off or works for more reads than `most`
+abbrev pub word_prompt : Set → ℕ → ℕ
+word_prompt Intel most = most + 5
+word_prompt Amd most = most + 7
+
+-- up to the last poll that a stuck lane is given
+abbrev pub word_stuck : Set → ℕ → ℕ
+word_stuck Intel limit = limit + 3
+word_stuck Amd limit = 2 * limit + 4
+
+-- The call was given up: a cycle failed, or lane k was told to work by `limit` polls.
+abbrev pub WordHalts : Set → ℕ → Geometry → ℕ → List ℕ → ℕ → BusState → BusState → Halt → Type 0
+WordHalts kind width g u word limit old new Off =
+    Lost (word_most kind limit) old new × (IsOwn width g old → u < units_of old → EachPart word (LosesWord kind u) old new)
+WordHalts kind width g u word limit old new (Stuck k) =
+    (k < g.lanes) × Went (word_stuck kind limit) (word_stuck kind limit) old new
+    × (IsOwn width g old → u < units_of old → EachPart word (TearsWord kind u) old new)
+    × (IsOwn width g old → u < units_of old → IsStuckBy kind u limit (lane old k))
+
+-- what is told of a lane that broke off
+abbrev pub is_broken : Seen → Bool
+is_broken Working = false
+is_broken Ready = false
+is_broken Suspended = false
+is_broken (Broken how) = true

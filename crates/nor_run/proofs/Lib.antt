@@ -1,0 +1,7 @@
+pub mod Calling
+pub mod Chips
+pub mod FileSizes
+pub mod Growing
+pub mod JustLoaded
+pub mod OneTable
+pub mod Reporting

@@ -1,0 +1,303 @@
+-- From a bank that was started to the bank that was loaded.
+use Rattle.std.proofs.Common.{◌≡◌, ◌≢◌, ◌<◌, ◌*◌, ◌&&◌, ◌==◌, ◌∙◌, inr, not, ℕ, zero, suc, List, [], ◌∷◌, length, replicate, take, map, slice_index_or, Bool, true, false, Option, Some, None, Result, Ok, Err, IfOk, IfErr, refl, sym, ap, subst, arith}
+use Rattle.std.specs.List.{list_all}
+use Rattle.nor_io.specs.Files.{Appends, AppendsPart}
+use Rattle.nor_io.specs.declared.sink.SinkError.{SinkError}
+use Rattle.nor_io.specs.declared.sink.SinkError.TheVariants.{Fault, NoMemory}
+use Rattle.nor_io.proofs.Pieces.{Appends-append, AppendsPart-append, AppendsPart-more}
+use Rattle.nor_cell.specs.Chip.{ChipState}
+use Rattle.nor_cell.specs.Ranges.{IsChip}
+use Rattle.nor_cell.specs.declared.device.Device.{Device}
+use Rattle.nor_cell.specs.declared.device.Set.{Set}
+use Rattle.nor_cell.specs.declared.device.Set.TheVariants.{Intel, Amd}
+use Rattle.nor_cell.specs.declared.geometry.Geometry.{Geometry}
+use Rattle.nor_bus.specs.Bus.{BusState, IsBank, lane, chip_at, bank_byte, bank_bytes, bank_size}
+use Rattle.nor_bus.specs.Cycles.{KeepsLanes}
+use Rattle.nor_bus.specs.Driven.{AllLanes, EachLane, Lost}
+use Rattle.nor_bus.proofs.Driving.{still_none, some_lane}
+use Rattle.nor_cell.specs.Resting.{IsResting}
+use Rattle.nor_lane.specs.Candidates.{wiring}
+use Rattle.nor_probe.specs.Asking.{Resets}
+use Rattle.nor_probe.specs.Counted.{Counted}
+use Rattle.nor_probe.specs.declared.error.ProbeError.{ProbeError}
+use Rattle.nor_probe.specs.declared.error.ProbeError.TheVariants.{Off as LostPower}
+use Rattle.nor_query.specs.Derived.{locks_of}
+use Rattle.nor_probe.specs.Probed.{refusal, IsFoundOn}
+use Rattle.nor_probe.specs.declared.probing.Found.{Found}
+use Rattle.nor_array.specs.Array.{ArrayState}
+use Rattle.nor_array.specs.After.{after_all}
+use Rattle.nor_array.specs.Legal.{Facts, Legal}
+use Rattle.nor_array.specs.declared.entry.Entry.{Entry}
+use Rattle.nor_array.specs.declared.state.OpenErase.{OpenErase}
+use Rattle.nor_script.specs.Puts.{Taken, PutsText}
+use Rattle.nor_script.specs.Report.{entry_lines, totals_text}
+use Rattle.nor_script.specs.declared.line.Line.{Line}
+use Rattle.nor_bank.specs.Calls.{facts_of}
+use Rattle.nor_bank.specs.Programs.{Lasts, IsSound}
+use Rattle.nor_bank.specs.Stands.{Stands, IsKnown, CanStart, array_of, constants_of, locked_at_first, under_of, kept_power, cut_of, is_under}
+use Rattle.nor_bank.specs.State.{BankState, size_of, blocks_of, bytes_of}
+use Rattle.nor_bank.proofs.Known.{known_parts, known_some}
+use Rattle.nor_image.specs.Image.{IsImageOf}
+use Rattle.nor_image.specs.Written.{file_of, AreStorable, Stores}
+use Rattle.nor_cell.specs.Power.{powered}
+use Rattle.nor_run.specs.Built.{is_sound, is_built_bank}
+use Rattle.nor_run.specs.Running.{CanRun, KeepsBank, IsHistoryOf, RunsWhole, RunsPart, ReportsWhole, ReportsPart, counters_of}
+use Rattle.nor_run.specs.Scripts.{IsJustLoaded, ShowsQry, RunsImage, started, opening_of, HoldsBytes, RunsLegally, RunsScript, RunsPartly, EndsRun, Reports}
+use Rattle.nor_run.specs.Started.{of_put, EndsStarted, ReportsStarted}
+use Rattle.nor_run.specs.declared.error.RunError.{RunError}
+use Rattle.nor_run.specs.declared.error.RunError.TheVariants.{Probe, NotBuilt, Put}
+use Rattle.nor_run.specs.declared.lines.Ran.{Ran}
+use Rattle.nor_run.proofs.FileSizes.{still_storable}
+use Rattle.nor_run.proofs.JustLoaded.{quiet_rests, same_lanes, can_start}
+
+-- ---- the report behind the lines
+
+pub report_whole : (lines : List Line) (old new : BankState) (a : ArrayState) (before mid after : Option (List ℕ)) (ran : Ran)
+    → RunsWhole lines old new a before mid ran → Appends mid (totals_text (counters_of new.bus.lanes) ran.entries) after
+    → ReportsWhole lines old new a before after ran
+report_whole lines old new a before mid after ran runs totals = record {
+  history = runs.history;
+  is = runs.is;
+  text = Appends-append before mid after (entry_lines 0 runs.history) (totals_text (counters_of new.bus.lanes) (length runs.history)) runs.text
+      (subst (λ (n : ℕ). Appends mid (totals_text (counters_of new.bus.lanes) n) after) runs.entries totals);
+  entries = runs.entries;
+  halted = runs.halted;
+}
+
+part_text : (text : List ℕ) (taken : Taken) (error : SinkError) → PutsText text taken (Err error) → AppendsPart taken.before text taken.after
+part_text text taken Fault puts = puts.1
+part_text text taken NoMemory puts = puts
+
+pub report_part : (lines : List Line) (old new : BankState) (a : ArrayState) (before mid after : Option (List ℕ)) (f g : ℕ) (ran : Ran) (error : SinkError)
+    → RunsWhole lines old new a before mid ran
+    → PutsText (totals_text (counters_of new.bus.lanes) ran.entries) (record { before = mid; after = after; faults_before = f; faults_after = g }) (Err error)
+    → ReportsPart lines old new a before after
+report_part lines old new a before mid after f g ran error runs puts = record {
+  history = runs.history;
+  count = length lines;
+  is = subst (λ (ls : List Line). IsHistoryOf ls old new a runs.history) (sym (whole_list lines)) runs.is;
+  text = AppendsPart-append before mid after (entry_lines 0 runs.history) (totals_text (counters_of new.bus.lanes) (length runs.history)) runs.text
+      (subst (λ (n : ℕ). AppendsPart mid (totals_text (counters_of new.bus.lanes) n) after) runs.entries
+      (part_text (totals_text (counters_of new.bus.lanes) ran.entries) (record { before = mid; after = after; faults_before = f; faults_after = g }) error puts));
+}
+  where
+    whole_list : (ls : List Line) → take (length ls) ls ≡ ls
+    whole_list [] = refl
+    whole_list (l ∷ ls) = ap (λ (rest : List Line). l ∷ rest) (whole_list ls)
+
+pub report_stopped : (lines : List Line) (old new : BankState) (a : ArrayState) (before after : Option (List ℕ)) → RunsPart lines old new a before after → ReportsPart lines old new a before after
+report_stopped lines old new a before after runs = record {
+  history = runs.history;
+  count = runs.count;
+  is = runs.is;
+  text = AppendsPart-more before after (entry_lines 0 runs.history) (totals_text (counters_of new.bus.lanes) (length runs.history)) runs.text;
+}
+
+-- ---- a bank that was just started
+
+-- A bank was started on a bus whose chips showed their arrays.
+pub record IsStarted (width : ℕ) (bus : BusState) (b : BankState) : Type 0 where
+  pub is_found : IsFoundOn width bus.lanes b.found
+  pub lanes : b.bus.lanes ≡ bus.lanes
+  pub halted : b.halted ≡ None
+  pub erase : b.erase ≡ None
+  pub unarmed : b.bus.armed ≡ None
+  pub stands : Stands b (array_of b)
+
+size_is : (b : BankState) → IsKnown b.found b.bus → size_of b.found ≡ bank_size b.bus.lanes
+size_is b known =
+    let first = (known_parts b.found b.bus known 0 (known_some b.found b.bus known)).size in
+    sym (ap (λ (n : ℕ). n * length (lane b.bus 0).cells) known.wired.own.count ∙ first)
+
+all_false : (xs : List Bool) → ((n : ℕ) → slice_index_or xs n false ≡ false) → xs ≡ replicate (length xs) false
+all_false [] each = refl
+all_false (x ∷ xs) each =
+    let first : x ≡ false = each 0 in
+    let rest = all_false xs (λ n. each (suc n)) in
+    λ i. first i ∷ rest i
+
+never_first : (set : Set) (offers : Bool) → offers ≡ false → locked_at_first set offers ≡ false
+never_first Intel offers none = none
+never_first Amd offers none = refl
+
+-- the array that it stands for is the opening one
+pub opens : (width : ℕ) (bus : BusState) (b : BankState) → IsStarted width bus b → locks_of b.found.query.extended ≡ false → array_of b ≡ opening_of b.found bus
+opens width bus b is none =
+    let known = is.stands.known in
+    let first = known_parts b.found b.bus known 0 (known_some b.found b.bus known) in
+    let size : size_of b.found ≡ bank_size bus.lanes = size_is b known ∙ ap (λ (chips : List ChipState). bank_size chips) is.lanes in
+    let consts = ap (λ (chips : List ChipState). constants_of b.found chips) is.lanes in
+    let bytes : bytes_of b 0 (size_of b.found) ≡ bank_bytes b.found.geometry.device bus.lanes 0 (bank_size bus.lanes) =
+    λ i. bank_bytes b.found.geometry.device (is.lanes i) 0 (size i) in
+    let locks : (lane b.bus 0).locks ≡ replicate (length (blocks_of b.found)) (locked_at_first b.found.query.set (locks_of b.found.query.extended)) =
+    all_false (lane b.bus 0).locks (first.unlocked none)
+    ∙ (λ i. replicate (first.locks i) (sym (never_first b.found.query.set (locks_of b.found.query.extended) none) i)) in
+    let under = ap under_of is.erase in
+    let power = ap kept_power is.halted in
+    let armed = ap (cut_of b.after) is.unarmed in
+    λ i. record { consts = consts i; bytes = bytes i; locks = locks i; under = under i; power = power i; armed = armed i }
+
+-- ---- what can be run
+
+and_parts : (x y : Bool) → (x && y) ≡ true → (x ≡ true) × (y ≡ true)
+and_parts true y is = (refl, is)
+and_parts false y is = absurd cc
+
+no_weak : (xs : List ℕ) → (length xs == 0) ≡ true → xs ≡ []
+no_weak [] is = refl
+no_weak (x ∷ xs) is = absurd (not_zero (length xs) is)
+  where
+    not_zero : (n : ℕ) → (suc n == 0) ≡ true → ⊥
+    not_zero n is = grind (arith, is)
+
+chip_sound : (s : ChipState) → is_sound s ≡ true → IsSound s
+chip_sound s is = no_weak s.part.weak (and_parts (length s.part.weak == 0) (not s.part.stuck) is).0
+
+all_sound : (chips : List ChipState) → list_all is_sound chips ≡ true → (c : ℕ) → c < length chips → IsSound (chip_at chips c)
+all_sound [] all c below = absurd (omega (arith, below))
+all_sound (s ∷ chips) all zero below = chip_sound s (and_parts (is_sound s) (list_all is_sound chips) all).0
+all_sound (s ∷ chips) all (suc c) below = all_sound chips (and_parts (is_sound s) (list_all is_sound chips) all).1 c (omega (arith, below))
+
+pub can_run : (width : ℕ) (bus : BusState) (b : BankState) → IsStarted width bus b → is_built_bank bus.lanes ≡ true → locks_of b.found.query.extended ≡ false → CanRun b (array_of b)
+can_run width bus b is built none =
+    let known = is.stands.known in
+    let some = known_some b.found b.bus known in
+    let first = known_parts b.found b.bus known 0 some in
+    let here : is_built_bank b.bus.lanes ≡ true = ap (λ (chips : List ChipState). is_built_bank chips) is.lanes ∙ built in
+    record {
+      stands = is.stands;
+      closed = is.erase;
+      built = all_sound b.bus.lanes here;
+      unlocked = first.unlocked none;
+    }
+
+-- ---- what was run
+
+same_facts : (width : ℕ) (bus : BusState) (b : BankState) → IsStarted width bus b → facts_of b ≡ facts_of (started b.found bus)
+same_facts width bus b is = ap (λ (chips : List ChipState). facts_of (started b.found (record bus { lanes = chips }))) is.lanes
+
+under_none : (o : Option OpenErase) (consts : _) (p : ℕ) → o ≡ None → is_under o consts p ≡ false
+under_none o consts p is = ap (λ (x : Option OpenErase). is_under x consts p) is
+
+holds_bytes : (b new : BankState) (a : ArrayState) → b.erase ≡ None → KeepsBank b new → Stands new a → HoldsBytes b.found new.bus a
+holds_bytes b new a closed keeps stands =
+    let none : a.under ≡ None = stands.under ∙ ap under_of (keeps.erase closed) in
+    record {
+      size = stands.size ∙ size_is new stands.known;
+      bytes = λ p below.
+          stands.bytes p (let n = stands.size in omega (arith, below, n)) (under_none a.under a.consts p none)
+          ∙ ap (λ (f : Found). bank_byte f.geometry.device new.bus.lanes p) keeps.found;
+    }
+
+pub runs_legally : (width : ℕ) (bus : BusState) (lines : List Line) (b new : BankState) (es : List Entry) → IsStarted width bus b → locks_of b.found.query.extended ≡ false
+    → KeepsBank b new → IsHistoryOf lines b new (array_of b) es → RunsLegally width lines bus new.bus b.found es
+runs_legally width bus lines b new es is none keeps history =
+    let open_ = opens width bus b is none in
+    record {
+      is_found = is.is_found;
+      legal = subst (λ (f : Facts). Legal f (opening_of b.found bus) es) (same_facts width bus b is)
+          (subst (λ (a : ArrayState). Legal (facts_of b) a es) open_ history.legal);
+      answers = history.answers;
+      count = keeps.lanes.count ∙ ap (λ (chips : List ChipState). length chips) is.lanes;
+      lasts = λ c below.
+          subst (λ (chips : List ChipState). Lasts (chip_at chips c) (lane new.bus c)) is.lanes
+          (history.lasts c (subst (λ (chips : List ChipState). c < length chips) (sym is.lanes) below));
+      holds = subst (λ (a : ArrayState). HoldsBytes b.found new.bus (after_all a es)) open_
+          (holds_bytes b new (after_all (array_of b) es) is.erase keeps history.stands);
+    }
+
+-- ---- what was put
+
+pub reports : (width : ℕ) (bus : BusState) (lines : List Line) (b : BankState) (after : BusState) (taken : Taken) (result : Result Ran RunError)
+    → IsStarted width bus b → EndsStarted (locks_of b.found.query.extended) taken result → ReportsStarted lines b after (array_of b) taken result
+    → Reports width lines bus after taken result
+reports width bus lines b after taken (Ok ran) is ends told =
+    let all = told.3 in
+    subst (λ (x : BusState). RunsScript width lines bus x taken.before taken.after ran) told.1 (record {
+      found = b.found;
+      history = all.history;
+      runs = runs_legally width bus lines b told.0 all.history is ends told.2 all.is;
+      text = all.text;
+      entries = all.entries;
+      halted = all.halted;
+    })
+reports width bus lines b after taken (Err (Probe error)) is ends told = tt
+reports width bus lines b after taken (Err NotBuilt) is ends told = tt
+reports width bus lines b after taken (Err (Put error)) is ends told =
+    let all = told.3 in
+    subst (λ (x : BusState). RunsPartly width lines bus x taken.before taken.after) told.1 (record {
+      found = b.found;
+      history = all.history;
+      count = all.count;
+      runs = runs_legally width bus (take all.count lines) b told.0 all.history is (never error ends) told.2 all.is;
+      text = all.text;
+    })
+  where
+    never : (e : SinkError) → EndsStarted (locks_of b.found.query.extended) taken (Err (Put e)) → locks_of b.found.query.extended ≡ false
+    never Fault ends = ends.0
+    never NoMemory ends = ends
+
+pub ends_run : (width : ℕ) (bus : BusState) (b : BankState) (taken : Taken) (result : Result Ran RunError) → is_built_bank bus.lanes ≡ true → IsFoundOn width bus.lanes b.found
+    → EndsStarted (locks_of b.found.query.extended) taken result → EndsRun width bus.lanes taken result
+ends_run width bus b taken (Ok ran) built is ends = (built, record { found = b.found; is_found = is; locks = ends })
+ends_run width bus b taken (Err (Probe error)) built is ends = absurd ends
+ends_run width bus b taken (Err NotBuilt) built is ends = (inr (built, record { found = b.found; is_found = is; locks = ends.0 }), ends.1)
+ends_run width bus b taken (Err (Put Fault)) built is ends = (built, record { found = b.found; is_found = is; locks = ends.0 }, ends.1)
+ends_run width bus b taken (Err (Put NoMemory)) built is ends = (built, record { found = b.found; is_found = is; locks = ends })
+
+-- what starting leaves of it
+pub starts_so : (width : ℕ) (bus : BusState) (b : BankState) (loaded : IsJustLoaded width bus) → AllLanes IsChip bus → AllLanes ShowsQry bus
+    → IsFoundOn width bus.lanes b.found → (b.halted ≡ None) × (b.erase ≡ None) × (b.after ≡ 0)
+    → EachLane Resets bus b.bus → Counted 524 bus b.bus → ((g : Geometry) → CanStart width g bus → Stands b (array_of b)) → IsStarted width bus b
+starts_so width bus b loaded ranges qry found fresh resets counted stands = record {
+  is_found = found;
+  lanes = same_lanes bus b.bus counted.went.kept.count (λ c below. (loaded.chips c below).quiet) resets;
+  halted = fresh.0;
+  erase = fresh.1;
+  unarmed = still_none counted.cycles counted.cycles bus.armed b.bus.armed counted.went.armed loaded.fresh.armed;
+  stands = stands (wiring (length bus.lanes) loaded.device) (can_start width bus loaded ranges qry b.found found);
+}
+
+-- each chip that was just loaded rests
+pub all_rest : (width : ℕ) (bus : BusState) → IsJustLoaded width bus → AllLanes IsResting bus
+all_rest width bus loaded c below = quiet_rests (lane bus c) (loaded.chips c below).quiet
+
+-- its power isn't lost
+pub never_lost : (width : ℕ) (bus new : BusState) → IsJustLoaded width bus → Lost 524 bus new → ⊥
+never_lost width bus new loaded lost = lost.was_armed loaded.fresh.power loaded.fresh.armed
+
+pub refused_as : (width : ℕ) (bus new : BusState) (error : ProbeError) → IsJustLoaded width bus
+    → (error ≢ LostPower → AllLanes IsResting bus → refusal width bus.lanes ≡ Some error) → (error ≡ LostPower → Lost 524 bus new) → refusal width bus.lanes ≡ Some error
+refused_as width bus new error loaded refused lost = refused (λ is. never_lost width bus new loaded (lost is)) (all_rest width bus loaded)
+
+-- ---- what a started bank reports
+
+by_put : (lines : List Line) (old new : BankState) (bus : BusState) (a : ArrayState) (taken : Taken) (ran : Result Ran SinkError)
+    → new.bus ≡ bus → KeepsBank old new → CanRun old a
+    → IfOk ran (λ r. (x : ArrayState) → CanRun old x → ReportsWhole lines old new x taken.before taken.after r)
+    → IfErr ran (λ e. (x : ArrayState) → CanRun old x → ReportsPart lines old new x taken.before taken.after)
+    → ReportsStarted lines old bus a taken (of_put ran)
+by_put lines old new bus a taken (Ok r) is keeps can whole part = (new, is, keeps, whole a can)
+by_put lines old new bus a taken (Err e) is keeps can whole part = (new, is, keeps, part a can)
+
+pub started_reports : (lines : List Line) (old new : BankState) (bus : BusState) (a : ArrayState) (taken : Taken) (ran : Result Ran SinkError) (result : Result Ran RunError)
+    → new.bus ≡ bus → KeepsBank old new → CanRun old a → result ≡ of_put ran
+    → IfOk ran (λ r. (x : ArrayState) → CanRun old x → ReportsWhole lines old new x taken.before taken.after r)
+    → IfErr ran (λ e. (x : ArrayState) → CanRun old x → ReportsPart lines old new x taken.before taken.after)
+    → ReportsStarted lines old bus a taken result
+started_reports lines old new bus a taken ran result is keeps can put whole part =
+    subst (λ (r : Result Ran RunError). ReportsStarted lines old bus a taken r) (sym put) (by_put lines old new bus a taken ran is keeps can whole part)
+
+-- ---- the file of the bank
+
+pub image_reports : (width w : ℕ) (lines : List Line) (old new : BusState) (taken : Taken) (ran : Ran) (result : Result Ran RunError) (file : List ℕ)
+    → w ≡ width → (device : Device) → IsBank width device old.lanes → AreStorable old.lanes → KeepsLanes old new → result ≡ Ok ran
+    → Reports width lines old new taken result → file ≡ file_of w new.lanes → Stores file w new.lanes
+    → RunsImage width lines old taken.before taken.after ran file
+image_reports width w lines old new taken ran result file same device bank storable keeps is told spelled stores =
+    record {
+      new = new;
+      runs = subst (λ (r : Result Ran RunError). Reports width lines old new taken r) is told;
+      spelled = spelled ∙ ap (λ (n : ℕ). file_of n new.lanes) same;
+      image = subst (λ (n : ℕ). IsImageOf file n (map powered new.lanes)) same (stores (still_storable old new (some_lane width device old.lanes bank) keeps storable));
+    }

@@ -1,0 +1,4 @@
+pub mod Built
+pub mod Running
+pub mod Scripts
+pub mod Started

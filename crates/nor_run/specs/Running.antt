@@ -1,0 +1,120 @@
+-- What running the lines of a script makes of a bank.
+use Rattle.std.specs.Prelude.{◌≡◌, ℕ, List, length, take, map, Bool, true, false, Option, None, Result, Ok, Err}
+use Rattle.std.specs.List.{list_any}
+use Rattle.nor_cell.specs.Chip.{ChipState}
+use Rattle.nor_bus.specs.Cycles.{KeepsLanes}
+use Rattle.nor_bus.specs.Driven.{EachLane}
+use Rattle.nor_array.specs.Array.{ArrayState, is_locked}
+use Rattle.nor_array.specs.After.{after_all}
+use Rattle.nor_array.specs.Legal.{Legal}
+use Rattle.nor_array.specs.declared.entry.Entry.{Entry}
+use Rattle.nor_array.specs.declared.entry.Op.{Op}
+use Rattle.nor_array.specs.declared.entry.Reply.{Reply}
+use Rattle.nor_array.specs.declared.entry.Reply.TheVariants.{Halted}
+use Rattle.nor_io.specs.Files.{Rose, Appends, AppendsPart}
+use Rattle.nor_io.specs.declared.sink.SinkError.{SinkError}
+use Rattle.nor_io.specs.declared.sink.SinkError.TheVariants.{Fault, NoMemory}
+use Rattle.nor_script.specs.Answering.{IsOf, AnswersRun}
+use Rattle.nor_script.specs.Puts.{Taken}
+use Rattle.nor_script.specs.Report.{entry_line, entry_lines, report_text}
+use Rattle.nor_script.specs.declared.line.Line.{Line}
+use Rattle.nor_script.specs.declared.line.Word.{Word}
+use Rattle.nor_script.specs.declared.line.Word.TheVariants.{Call, Erase}
+use Rattle.nor_bank.specs.Calls.{MakesEntry, facts_of}
+use Rattle.nor_bank.specs.Programs.{Lasts}
+use Rattle.nor_bank.specs.Stands.{Stands}
+use Rattle.nor_bank.specs.State.{BankState}
+use Rattle.nor_bank.specs.Work.{IsBuilt}
+use Rattle.nor_run.specs.declared.lines.Ran.{Ran}
+
+-- ---- before
+
+-- The bank stands for an array of which no block is locked. Nothing is under erase, and programs are built for it.
+pub record CanRun (b : BankState) (a : ArrayState) : Type 0 where
+  pub stands : Stands b a
+  pub closed : b.erase ≡ None
+  pub built : IsBuilt b
+  pub unlocked : (n : ℕ) → is_locked a n ≡ false
+
+-- ---- one line
+
+-- A call changes the bus, of which each chip stays what it is, and the halt that is kept.
+pub record KeepsBank (old new : BankState) : Type 0 where
+  pub found : new.found ≡ old.found
+  pub erase : old.erase ≡ None → new.erase ≡ None
+  pub lanes : KeepsLanes old.bus new.bus
+
+-- A text that tells a reply was put; or the sink failed, which its count tells, or lacked memory, and then a first part was.
+abbrev pub PutsReply : List ℕ → Reply → Taken → Result Reply SinkError → Type 0
+PutsReply text reply taken (Ok told) = (told ≡ reply) × Appends taken.before text taken.after
+PutsReply text reply taken (Err Fault) = Rose taken.faults_before taken.faults_after × AppendsPart taken.before text taken.after
+PutsReply text reply taken (Err NoMemory) = AppendsPart taken.before text taken.after
+
+abbrev pub line_of_entry : ℕ → Entry → List ℕ
+line_of_entry position e = entry_line position e.caller e.op e.reply e.bytes
+
+-- A call was made and its entry put: the array admits it, and the bank stands for the array after it.
+pub record RunsCall (caller : ℕ) (op : Op) (position : ℕ) (old new : BankState) (a : ArrayState) (taken : Taken) (result : Result Reply SinkError) : Type 0 where
+  pub entry : Entry
+  pub is : IsOf caller op entry
+  pub makes : MakesEntry old new entry a
+  pub lasts : EachLane Lasts old.bus new.bus
+  pub puts : PutsReply (line_of_entry position entry) entry.reply taken result
+
+-- The call of a line was made so; no other line is built.
+abbrev pub RunsWord : Word → ℕ → ℕ → (old new : BankState) → ArrayState → Taken → Result Reply SinkError → Type 0
+RunsWord (Call op) caller position old new a taken result = RunsCall caller op position old new a taken result
+RunsWord (Erase b) caller position old new a taken result = ⊥
+
+-- ---- all lines
+
+abbrev pub is_halt : Reply → Bool
+is_halt (Halted cause) = true
+is_halt _ = false
+
+-- the bank halted
+abbrev pub has_halt : List Entry → Bool
+has_halt es = list_any (λ e. is_halt e.reply) es
+
+-- The history is legal, answers the lines, and led the bank from old to new: all of each chip is as it was but its bytes.
+pub record IsHistoryOf (lines : List Line) (old new : BankState) (a : ArrayState) (es : List Entry) : Type 0 where
+  pub legal : Legal (facts_of old) a es
+  pub answers : AnswersRun lines es
+  pub stands : Stands new (after_all a es)
+  pub lasts : EachLane Lasts old.bus new.bus
+
+-- All lines were run, and the history put.
+pub record RunsWhole (lines : List Line) (old new : BankState) (a : ArrayState) (before after : Option (List ℕ)) (ran : Ran) : Type 0 where
+  pub history : List Entry
+  pub is : IsHistoryOf lines old new a history
+  pub text : Appends before (entry_lines 0 history) after
+  pub entries : ran.entries ≡ length history
+  pub halted : ran.halted ≡ has_halt history
+
+-- The first lines were run, up to one whose entry wasn't put whole.
+pub record RunsPart (lines : List Line) (old new : BankState) (a : ArrayState) (before after : Option (List ℕ)) : Type 0 where
+  pub history : List Entry
+  pub count : ℕ
+  pub is : IsHistoryOf (take count lines) old new a history
+  pub text : AppendsPart before (entry_lines 0 history) after
+
+-- ---- with the chips' counters at the end
+
+-- how often an erase was suspended on each lane, and how many erases there were
+abbrev pub counters_of : List ChipState → List (ℕ × ℕ)
+counters_of chips = map (λ (s : ChipState). (s.suspends, s.erases)) chips
+
+-- All lines were run, and the report put.
+pub record ReportsWhole (lines : List Line) (old new : BankState) (a : ArrayState) (before after : Option (List ℕ)) (ran : Ran) : Type 0 where
+  pub history : List Entry
+  pub is : IsHistoryOf lines old new a history
+  pub text : Appends before (report_text history (counters_of new.bus.lanes)) after
+  pub entries : ran.entries ≡ length history
+  pub halted : ran.halted ≡ has_halt history
+
+-- The first lines were run, and the report of their history wasn't put whole.
+pub record ReportsPart (lines : List Line) (old new : BankState) (a : ArrayState) (before after : Option (List ℕ)) : Type 0 where
+  pub history : List Entry
+  pub count : ℕ
+  pub is : IsHistoryOf (take count lines) old new a history
+  pub text : AppendsPart before (report_text history (counters_of new.bus.lanes)) after

@@ -1,0 +1,57 @@
+//! The chips of a simulated bank.
+ghost use Rattle.std.specs.Prelude.{◌≡◌, ◌<◌, ◌≤◌};
+ghost use Rattle.nor_bus.specs.Bus.{IsWired, lanes_of as lanes_in, lane as lane_state};
+ghost use Rattle.nor_script.specs.Puts.{PutsText};
+ghost use Rattle.nor_script.specs.Report.{totals_text};
+ghost use Rattle.nor_run.specs.Running.{counters_of};
+
+use nor_bus::{Bus, SimBank, lane_bytes};
+use nor_cell::{Chip, Device};
+use nor_io::{Sink, SinkError};
+use nor_script::put_totals;
+use nor_word::BusWord;
+
+// The device of all its chips.
+fn device_of<W: BusWord, C: Chip + Drop>(bank: &SimBank<W, C>) -> Device
+    requires { 0 < lanes_in bank.now }
+    ensures { result ≡ (lane_state bank.now 0).part.device }
+{
+    bank.chip(0).cells().device
+}
+
+/// How many lanes the bank has: as many as fill the bus.
+pub fn lanes_of<W: BusWord, C: Chip + Drop>(bank: &SimBank<W, C>) -> u8
+    ensures value { result ≡ lanes_in bank.now }
+    ensures some { 0 < result }
+    ensures few { result ≤ 4 }
+    ensures wired { IsWired W.WIDTH bank.now }
+{
+    // Every bus says that its chips fill its word.
+    let _ = bank.units();
+    W::WIDTH / lane_bytes(device_of(bank))
+}
+
+// How often an erase was suspended on a chip, and how many erases there were.
+fn counters<C: Chip>(chip: &C) -> (u32, u32)
+    ensures { result ≡ ((C.state chip.now).suspends, (C.state chip.now).erases) }
+{
+    let cells = chip.cells();
+    (cells.suspends, cells.erases)
+}
+
+/// Puts the end of a report: each lane's counters, and the number of entries.
+pub fn put_counters<W: BusWord, C: Chip + Drop, K: Sink>(
+    bank: &SimBank<W, C>,
+    entries: u64,
+    out: &mut K,
+) -> Result<(), SinkError>
+    ensures puts { PutsText (totals_text (counters_of bank.now.lanes) entries) (record { before = K.taken out.old; after = K.taken out.new; faults_before = K.faults out.old; faults_after = K.faults out.new }) result }
+    ensures later { K.faults out.old ≤ K.faults out.new }
+{
+    let mut all = [(0u32, 0u32); 4];
+    let lanes = lanes_of(bank);
+    for lane in 0..lanes {
+        all[usize::from(lane)] = counters(bank.chip(lane));
+    }
+    put_totals(out, &all[..usize::from(lanes)], entries)
+}

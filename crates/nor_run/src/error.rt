@@ -1,0 +1,13 @@
+use nor_io::SinkError;
+use nor_probe::ProbeError;
+
+/// Why a script wasn't run, or not to its end.
+#[derive(Clone, Copy, Debug, PartialEq, Eq)]
+pub enum RunError {
+    /// Probing refuses the bank.
+    Probe(ProbeError),
+    /// Running isn't built for such a bank yet.
+    NotBuilt,
+    /// The report wasn't put whole.
+    Put(SinkError),
+}

@@ -1,0 +1,187 @@
+//! Running the lines of a script.
+ghost use Rattle.std.specs.Prelude.{◌≡◌, ◌≤◌, ◌<◌, ◌+◌, ◌^◌, ◌||◌, ℕ, true, length, IfOk, IfErr, Err};
+ghost use Rattle.nor_array.specs.Array.{ArrayState};
+ghost use Rattle.nor_io.specs.Files.{Rose};
+ghost use Rattle.nor_io.specs.declared.sink.SinkError.TheVariants.{Fault};
+ghost use Rattle.nor_script.specs.Report.{entry_line};
+ghost use Rattle.nor_run.specs.Built.{is_built_call, is_built_word, are_built};
+ghost use Rattle.nor_run.specs.Running.{CanRun, KeepsBank, PutsReply, RunsCall, RunsWord, RunsWhole, RunsPart, is_halt as halts};
+
+use nor_array::{Op, Reply};
+use nor_bank::{Bank, MAX_LEN};
+use nor_bus::Bus;
+use nor_io::{Sink, SinkError};
+use nor_script::{Line, Word, put_entry};
+use nor_word::BusWord;
+
+/// What was run: how many entries the history has, and whether the bank halted in it.
+#[derive(Clone, Copy, Debug, PartialEq, Eq)]
+pub struct Ran {
+    pub entries: u64,
+    pub halted: bool,
+}
+
+// Puts an entry, and gives its reply.
+fn put_reply<K: Sink>(
+    out: &mut K,
+    position: u64,
+    caller: u8,
+    op: &Op,
+    reply: Reply,
+    bytes: &[u8],
+) -> Result<Reply, SinkError>
+    ensures puts { PutsReply (entry_line position caller op.now reply bytes.now) reply (record { before = K.taken out.old; after = K.taken out.new; faults_before = K.faults out.old; faults_after = K.faults out.new }) result }
+    ensures later { K.faults out.old ≤ K.faults out.new }
+{
+    put_entry(out, position, caller, op, reply, bytes)?;
+    Ok(reply)
+}
+
+// Reads bytes, and puts the entry.
+fn read_into<W: BusWord, B: Bus<W>, K: Sink>(
+    bank: &mut Bank<W, B>,
+    caller: u8,
+    at: u32,
+    len: u32,
+    into: &mut [u8],
+    position: u64,
+    out: &mut K,
+) -> Result<Reply, SinkError>
+    requires { length into.old ≡ len }
+    ensures runs { (a : ArrayState) → CanRun bank.old a
+        → RunsCall caller (Op.Read at len) position bank.old bank.new a (record { before = K.taken out.old; after = K.taken out.new; faults_before = K.faults out.old; faults_after = K.faults out.new }) result }
+    ensures keeps { KeepsBank bank.old bank.new }
+    ensures fault { result ≡ Err Fault → Rose (K.faults out.old) (K.faults out.new) }
+    ensures later { K.faults out.old ≤ K.faults out.new }
+{
+    let op = Op::Read { at, len };
+    let reply = bank.read(caller, at, into);
+    put_reply(out, position, caller, &op, reply, into)
+}
+
+// Reads as a line says. What the bank refuses isn't read.
+fn run_read<W: BusWord, B: Bus<W>, K: Sink>(
+    bank: &mut Bank<W, B>,
+    caller: u8,
+    at: u32,
+    len: u32,
+    position: u64,
+    out: &mut K,
+) -> Result<Reply, SinkError>
+    ensures runs { (a : ArrayState) → CanRun bank.old a
+        → RunsCall caller (Op.Read at len) position bank.old bank.new a (record { before = K.taken out.old; after = K.taken out.new; faults_before = K.faults out.old; faults_after = K.faults out.new }) result }
+    ensures keeps { KeepsBank bank.old bank.new }
+    ensures fault { result ≡ Err Fault → Rose (K.faults out.old) (K.faults out.new) }
+    ensures later { K.faults out.old ≤ K.faults out.new }
+{
+    if let Some(reply) = bank.range_refusal(at, u64::from(len)) {
+        let op = Op::Read { at, len };
+        return put_reply(out, position, caller, &op, reply, &[]);
+    }
+    let mut data = [0u8; MAX_LEN];
+    read_into(
+        bank,
+        caller,
+        at,
+        len,
+        &mut data[..len as usize],
+        position,
+        out,
+    )
+}
+
+// Makes a call, and puts its entry.
+fn run_call<W: BusWord, B: Bus<W>, K: Sink>(
+    bank: &mut Bank<W, B>,
+    caller: u8,
+    op: &Op,
+    position: u64,
+    out: &mut K,
+) -> Result<Reply, SinkError>
+    requires { is_built_call op.now ≡ true }
+    ensures runs { (a : ArrayState) → CanRun bank.old a
+        → RunsCall caller op.now position bank.old bank.new a (record { before = K.taken out.old; after = K.taken out.new; faults_before = K.faults out.old; faults_after = K.faults out.new }) result }
+    ensures keeps { KeepsBank bank.old bank.new }
+    ensures fault { result ≡ Err Fault → Rose (K.faults out.old) (K.faults out.new) }
+    ensures later { K.faults out.old ≤ K.faults out.new }
+{
+    match op {
+        Op::Read { at, len } => run_read(bank, caller, *at, *len, position, out),
+        Op::Program { at, new } => {
+            let reply = bank.program(caller, *at, new.as_slice());
+            put_reply(out, position, caller, op, reply, &[])
+        }
+        _ => unreachable!(),
+    }
+}
+
+fn is_halt(reply: Reply) -> bool
+    ensures { result ≡ halts reply }
+{
+    match reply {
+        Reply::Halted(_) => true,
+        _ => false,
+    }
+}
+
+// One entry more.
+fn ran_on(ran: Ran, reply: Reply) -> Ran
+    requires { ran.entries < 2 ^ 63 }
+    ensures { result ≡ record { entries = ran.entries + 1; halted = ran.halted || halts reply } }
+{
+    Ran {
+        entries: ran.entries + 1,
+        halted: ran.halted || is_halt(reply),
+    }
+}
+
+// Runs one line.
+fn run_line<W: BusWord, B: Bus<W>, K: Sink>(
+    bank: &mut Bank<W, B>,
+    line: &Line,
+    position: u64,
+    out: &mut K,
+) -> Result<Reply, SinkError>
+    requires { is_built_word line.now.word ≡ true }
+    ensures runs { (a : ArrayState) → CanRun bank.old a
+        → RunsWord line.now.word line.now.caller position bank.old bank.new a (record { before = K.taken out.old; after = K.taken out.new; faults_before = K.faults out.old; faults_after = K.faults out.new }) result }
+    ensures keeps { KeepsBank bank.old bank.new }
+    ensures fault { result ≡ Err Fault → Rose (K.faults out.old) (K.faults out.new) }
+    ensures later { K.faults out.old ≤ K.faults out.new }
+{
+    match &line.word {
+        Word::Call(op) => run_call(bank, line.caller, op, position, out),
+        Word::Erase { .. } => unreachable!(),
+    }
+}
+
+/// Runs the lines of a script on a bank, one after the other, and puts the entry of each as soon as it
+/// is made. Each line must be built.
+///
+/// On a bank that can be run the entries are a legal history that answers the lines, and the bank
+/// stands for the array after it. `Fault` and `NoMemory` come only from the sink: the line whose entry
+/// it didn't take whole is the last that was run. No memory is taken.
+pub fn run_lines<W: BusWord, B: Bus<W>, K: Sink>(
+    bank: &mut Bank<W, B>,
+    lines: &[Line],
+    out: &mut K,
+) -> Result<Ran, SinkError>
+    requires { are_built lines.now ≡ true }
+    ensures ran { IfOk result (λ ran. (a : ArrayState) → CanRun bank.old a
+        → RunsWhole lines.now bank.old bank.new a (K.taken out.old) (K.taken out.new) ran) }
+    ensures stopped { IfErr result (λ _. (a : ArrayState) → CanRun bank.old a
+        → RunsPart lines.now bank.old bank.new a (K.taken out.old) (K.taken out.new)) }
+    ensures keeps { KeepsBank bank.old bank.new }
+    ensures fault { result ≡ Err Fault → Rose (K.faults out.old) (K.faults out.new) }
+    ensures later { K.faults out.old ≤ K.faults out.new }
+{
+    let mut ran = Ran {
+        entries: 0,
+        halted: false,
+    };
+    for line in lines {
+        let reply = run_line(bank, line, ran.entries, out)?;
+        ran = ran_on(ran, reply);
+    }
+    Ok(ran)
+}

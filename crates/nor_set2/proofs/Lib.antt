@@ -1,0 +1,2 @@
+mod Commanding
+mod Beginning

@@ -1,0 +1,125 @@
+use Rattle.std.proofs.Common.{min, arith, sym, subst, ◌+◌, ◌*◌, ◌<◌, ℕ}
+use Rattle.nor_cell.specs.declared.device.Set.TheVariants.{Amd}
+use Rattle.nor_word.specs.Word.{lane_of}
+use Rattle.nor_bus.specs.Bus.{lane, wide}
+use Rattle.nor_bus.proofs.Driving.{went_none, lost_then, few_lanes, own_kept}
+use Rattle.nor_poll.specs.Told.{seen_at}
+use Rattle.nor_poll.specs.Wait.{wait_most, wait_prompt}
+use Rattle.nor_poll.specs.Word.{WordHalts}
+use Rattle.nor_poll.specs.declared.lanes.Halt.TheVariants.{Off}
+use Rattle.nor_poll.proofs.Reading.{if_gave, moved, lost_reading}
+use Rattle.nor_poll.proofs.Wording.{word_halts, word_done, tells, past_lanes, loses_ended, all_work_for, counted_word}
+use Rattle.nor_set2.proofs.Beginning.{answers_begun, polls_most, polls_prompt, halts_fit}
+use Rattle.nor_set2.proofs.word.program_word.Goals as goal
+
+pub returns-in_err-begin_word-clause-halts : goal.returns-in_err-begin_word-clause-halts
+returns-in_err-begin_word-clause-halts g c =
+    let old = g.B.Bus.state c.args.bus.now in
+    let new = g.B.Bus.state c.begin_word.new.bus in
+    if_gave c.from_residual.result Off (WordHalts Amd g.W.BusWord.WIDTH c.args.g c.args.at (g.W.BusWord.bytes c.args.new) c.args.limit old new) c.from_residual.ensures.1 (
+      lost_then 0 0 4 (2 * c.args.limit + 6) old old new (omega arith) (went_none old) c.in_err-begin_word.ensures.lost,
+      λ own within. c.in_err-begin_word.ensures.loses own,
+    )
+
+pub returns-in_err-watch-clause-halts : goal.returns-in_err-watch-clause-halts
+returns-in_err-watch-clause-halts g c =
+    let width = g.W.BusWord.WIDTH in
+    let how = c.polling_of.result in
+    let old = g.B.Bus.state c.args.bus.now in
+    let mid = g.B.Bus.state c.begin_word.new.bus in
+    let last = g.B.Bus.state c.wait_ready.new.bus in
+    let word = g.W.BusWord.bytes c.args.new in
+    let halt = c.in_err-watch.field-0.0 in
+    let fits = halts_fit c.args.new how c.args.limit c.polling_of.ensures.word in
+    if_gave c.from_residual-in_err-watch.result halt (WordHalts Amd width c.args.g c.args.at word c.args.limit old last) c.from_residual-in_err-watch.ensures.1
+    (word_halts g.W.BusWord.bytes how Amd width c.args.at c.args.limit 4 c.args.g word old mid last halt fits.0 fits.1 c.in_ok-begin_word.ensures.went c.in_ok-begin_word.ensures.begins
+    (λ own within k below takes.
+    answers_begun g.W.BusWord.bytes c.args.new how c.args.at k (lane old k) (lane mid k) c.polling_of.ensures.word (c.in_ok-begin_word.ensures.begins own within k below) takes)
+    c.begin_word.ensures.units c.in_err-watch.ensures.halts)
+
+pub returns-clause-done : goal.returns-clause-done
+returns-clause-done g c = λ own within k below.
+    let old = g.B.Bus.state c.args.bus.now in
+    let mid = g.B.Bus.state c.begin_word.new.bus in
+    let last = g.B.Bus.state c.wait_ready.new.bus in
+    let new = g.B.Bus.state c.end_program.new.bus in
+    let few = few_lanes g.W.BusWord.WIDTH c.args.g.device old.lanes own.bank in
+    let there = moved old mid k c.in_ok-begin_word.ensures.went.kept.count below in
+    let v = lane_of (wide (lane old k)) (g.W.BusWord.bytes c.args.new) k in
+    let begins = c.in_ok-begin_word.ensures.begins own within k below in
+    word_done Amd c.args.at v c.broken_lanes-broken.result.bits k (lane old k) (lane mid k) (lane last k) (lane new k) (seen_at c.in_ok-watch.watch.lanes k) begins
+    (λ takes.
+    c.in_ok-watch.ensures.ready (own_kept g.W.BusWord.WIDTH c.args.g old mid c.in_ok-begin_word.ensures.went.kept own) (subst (λ (n : ℕ). c.args.at < n) (sym c.begin_word.ensures.units) within) k there
+    (answers_begun g.W.BusWord.bytes c.args.new c.polling_of.result c.args.at k (lane old k) (lane mid k) c.polling_of.ensures.word begins takes))
+    (c.broken_lanes-broken.ensures.lanes k (omega (arith, few, below)))
+    (c.in_ok-end_program.ensures.lanes k (moved mid last k c.in_ok-watch.ensures.went.went.kept.count there))
+
+pub returns-clause-set : goal.returns-clause-set
+returns-clause-set g c = λ own within k below.
+    let old = g.B.Bus.state c.args.bus.now in
+    let mid = g.B.Bus.state c.begin_word.new.bus in
+    let last = g.B.Bus.state c.wait_ready.new.bus in
+    let few = few_lanes g.W.BusWord.WIDTH c.args.g.device old.lanes own.bank in
+    let v = lane_of (wide (lane old k)) (g.W.BusWord.bytes c.args.new) k in
+    let begins = c.in_ok-begin_word.ensures.begins own within k below in
+    tells Amd c.args.at v (lane old k) (lane mid k) (lane last k) (seen_at c.in_ok-watch.watch.lanes k) _ begins
+    (λ takes.
+    c.in_ok-watch.ensures.ready (own_kept g.W.BusWord.WIDTH c.args.g old mid c.in_ok-begin_word.ensures.went.kept own) (subst (λ (n : ℕ). c.args.at < n) (sym c.begin_word.ensures.units) within) k
+    (moved old mid k c.in_ok-begin_word.ensures.went.kept.count below)
+    (answers_begun g.W.BusWord.bytes c.args.new c.polling_of.result c.args.at k (lane old k) (lane mid k) c.polling_of.ensures.word begins takes))
+    (c.broken_lanes-broken.ensures.lanes k (omega (arith, few, below)))
+
+pub returns-clause-past : goal.returns-clause-past
+returns-clause-past g c = λ k le.
+    past_lanes c.broken_lanes-broken.result.bits c.args.g.lanes k (seen_at c.in_ok-watch.watch.lanes) c.broken_lanes-broken.ensures.lanes c.broken_lanes-broken.ensures.past c.in_ok-watch.ensures.past le
+
+pub returns-clause-went : goal.returns-clause-went
+returns-clause-went g c =
+    let how = c.polling_of.result in
+    let most = polls_most c.args.new how c.args.limit c.polling_of.ensures.word in
+    counted_word 4 1 (2 * c.args.limit + 1) (wait_most how c.args.limit) (min c.broken_lanes-broken.result.bits 1) 5 (2 * c.args.limit + 6) (g.B.Bus.state c.args.bus.now)
+    (g.B.Bus.state c.begin_word.new.bus) (g.B.Bus.state c.wait_ready.new.bus) (g.B.Bus.state c.end_program.new.bus) (omega arith) (omega arith) (sym most) c.in_ok-begin_word.ensures.went
+    c.in_ok-watch.ensures.went c.in_ok-end_program.ensures.went
+
+pub returns-clause-prompt : goal.returns-clause-prompt
+returns-clause-prompt g c = λ own within most ends.
+    let how = c.polling_of.result in
+    let old = g.B.Bus.state c.args.bus.now in
+    let mid = g.B.Bus.state c.begin_word.new.bus in
+    let last = g.B.Bus.state c.wait_ready.new.bus in
+    let new = g.B.Bus.state c.end_program.new.bus in
+    let bits = c.broken_lanes-broken.result.bits in
+    let word = g.W.BusWord.bytes c.args.new in
+    let count = c.in_ok-begin_word.ensures.went.kept.count in
+    let begins = c.in_ok-begin_word.ensures.begins own within in
+    let polls =
+    c.in_ok-watch.ensures.prompt (own_kept g.W.BusWord.WIDTH c.args.g old mid c.in_ok-begin_word.ensures.went.kept own) (subst (λ (n : ℕ). c.args.at < n) (sym c.begin_word.ensures.units) within)
+    (λ k there.
+    let below = subst (λ (m : ℕ). k < m) count there in
+    answers_begun g.W.BusWord.bytes c.args.new how c.args.at k (lane old k) (lane mid k) c.polling_of.ensures.word (begins k below) (ends k below).takes)
+    most (all_work_for Amd c.args.at most word old mid count begins ends) in
+    counted_word 4 1 (most + 3) (wait_prompt how most) (min bits 1) 5 (most + 7 + min bits 1) old mid last new (omega arith) (omega arith) (sym (polls_prompt c.args.new how most c.polling_of.ensures.word))
+    c.in_ok-begin_word.ensures.went polls c.in_ok-end_program.ensures.went
+
+pub returns-in_err-end_program-clause-halts : goal.returns-in_err-end_program-clause-halts
+returns-in_err-end_program-clause-halts g c =
+    let how = c.polling_of.result in
+    let old = g.B.Bus.state c.args.bus.now in
+    let mid = g.B.Bus.state c.begin_word.new.bus in
+    let last = g.B.Bus.state c.wait_ready.new.bus in
+    let new = g.B.Bus.state c.end_program.new.bus in
+    let most = polls_most c.args.new how c.args.limit c.polling_of.ensures.word in
+    if_gave c.from_residual-in_err-end_program.result Off (WordHalts Amd g.W.BusWord.WIDTH c.args.g c.args.at (g.W.BusWord.bytes c.args.new) c.args.limit old new)
+    c.from_residual-in_err-end_program.ensures.1 (
+      lost_then 4 4 (2 * c.args.limit + 2) (2 * c.args.limit + 6) old mid new (omega arith) c.in_ok-begin_word.ensures.went
+          (lost_reading 1 (wait_most how c.args.limit) 1 (2 * c.args.limit + 2) mid last new (omega (arith, most)) c.in_ok-watch.ensures.went c.in_err-end_program.ensures.lost),
+      λ own within k below.
+          let there = moved old mid k c.in_ok-begin_word.ensures.went.kept.count below in
+          let v = lane_of (wide (lane old k)) (g.W.BusWord.bytes c.args.new) k in
+          let begins = c.in_ok-begin_word.ensures.begins own within k below in
+          loses_ended Amd c.args.at v (lane old k) (lane mid k) (lane last k) (lane new k) (seen_at c.in_ok-watch.watch.lanes k) begins
+          (λ takes.
+          c.in_ok-watch.ensures.ready (own_kept g.W.BusWord.WIDTH c.args.g old mid c.in_ok-begin_word.ensures.went.kept own) (subst (λ (n : ℕ). c.args.at < n) (sym c.begin_word.ensures.units) within) k
+          there (answers_begun g.W.BusWord.bytes c.args.new how c.args.at k (lane old k) (lane mid k) c.polling_of.ensures.word begins takes))
+          (c.in_err-end_program.ensures.loses k (moved mid last k c.in_ok-watch.ensures.went.went.kept.count there)),
+    )

@@ -1,0 +1,2 @@
+pub mod Unlock
+pub mod Polls

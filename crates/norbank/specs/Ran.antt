@@ -1,0 +1,50 @@
+-- What a run that was done has printed and saved, and which runs are done.
+use Rattle.std.specs.Prelude.{◌≡◌, ◌≤◌, ◌⊎◌, ◌^◌, ℕ, List, length, false, Option, Some, None}
+use Rattle.nor_bus.specs.Driven.{AllLanes}
+use Rattle.nor_image.specs.Image.{width_of}
+use Rattle.nor_io.specs.Files.{FileMap, Rose, Saves}
+use Rattle.nor_probe.specs.Probed.{IsFoundOn}
+use Rattle.nor_probe.specs.declared.probing.Found.{Found}
+use Rattle.nor_query.specs.Derived.{locks_of}
+use Rattle.nor_run.specs.Scripts.{RunsImage, ShowsQry}
+use Rattle.nor_run.specs.declared.lines.Ran.{Ran}
+use Rattle.nor_script.specs.Puts.{Taken}
+use Rattle.nor_script.specs.declared.line.Line.{Line}
+use Rattle.norbank.specs.Endings.{chips_of_file}
+use Rattle.norbank.specs.Open.{IsAccepted}
+use Rattle.norbank.specs.Runs.{Shelved, CanRunFile, fresh_bus, status_of}
+use Rattle.norbank.specs.Says.{IsFound}
+
+-- The script under one name was run on the bank of the file under the other. Where the bank's tables begin with `QRY`, the
+-- sink has taken the report of a legal history that answers the script, and the bank was saved under its name, with the
+-- array's bytes after that history.
+pub record RanImage (name script_name : List ℕ) (shelf : Shelved) (taken : Taken) (status : ℕ) : Type 0 where
+  pub file : List ℕ
+  pub is_file : IsFound shelf.before name (Some file)
+  pub few_bytes : length file ≤ 2 ^ 30
+  pub text : List ℕ
+  pub is_text : IsFound shelf.before script_name (Some text)
+  pub short : length text ≤ 2 ^ 30
+  pub lines : List Line
+  pub can : CanRunFile file text lines
+  pub ran : Ran
+  pub saved : List ℕ
+  pub code : status ≡ status_of ran.halted
+  pub runs : AllLanes ShowsQry (fresh_bus (chips_of_file file)) → RunsImage (width_of file) lines (fresh_bus (chips_of_file file)) taken.before taken.after ran saved
+  pub saves : Saves shelf.before name saved shelf.after
+
+-- The two files that a shelf tells can be run: whatever is found of the bank offers no locks.
+pub record AreRunnable (files : FileMap) (name script_name file text : List ℕ) (lines : List Line) : Type 0 where
+  pub is_file : files name ≡ Some file
+  pub few_bytes : length file ≤ 2 ^ 30
+  pub is_text : files script_name ≡ Some text
+  pub short : length text ≤ 2 ^ 30
+  pub can : CanRunFile file text lines
+  pub accepted : IsAccepted file
+  pub unlocked : (found : Found) → IsFoundOn (width_of file) (chips_of_file file) found → locks_of found.query.extended ≡ false
+
+-- All was done, halted or not, or a count of faults rose, or memory ran out.
+abbrev pub IsRunDone : Shelved → Taken → ℕ → Type 0
+IsRunDone shelf taken status =
+    ((status ≡ 0) ⊎ (status ≡ 6))
+    ⊎ (((status ≡ 7) × (Rose shelf.faults_before shelf.faults_after ⊎ Rose taken.faults_before taken.faults_after)) ⊎ (status ≡ 9))

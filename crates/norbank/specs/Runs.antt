@@ -1,0 +1,240 @@
+-- How `run` ends, by its words and the two files that it reads.
+use Rattle.std.specs.Prelude.{◌≡◌, ◌≤◌, ◌<◌, ◌⊎◌, ◌^◌, ℕ, List, ◌++◌, length, Bool, true, false, Option, Some, None, Result, Ok, Err, codes, decimal}
+use Rattle.nor_cell.specs.Chip.{ChipState}
+use Rattle.nor_bus.specs.Bus.{BusState}
+use Rattle.nor_bus.specs.Driven.{AllLanes}
+use Rattle.nor_image.specs.Image.{image_refusal, width_of}
+use Rattle.nor_image.specs.declared.error.ImageError.{ImageError}
+use Rattle.nor_io.specs.Files.{FileMap, Rose, Saves}
+use Rattle.nor_probe.specs.Probed.{refusal}
+use Rattle.nor_probe.specs.declared.error.ProbeError.{ProbeError}
+use Rattle.nor_run.specs.Built.{are_built, is_built_bank}
+use Rattle.nor_run.specs.Scripts.{HasLocks, RunsImage, RunsPartly, ShowsQry}
+use Rattle.nor_run.specs.declared.lines.Ran.{Ran}
+use Rattle.nor_script.specs.Puts.{Taken}
+use Rattle.nor_script.specs.Script.{script_of}
+use Rattle.nor_script.specs.declared.error.LineKind.{LineKind}
+use Rattle.nor_script.specs.declared.error.LineKind.TheVariants.{Bytes, Word, Count, Number, Hex, NotHere}
+use Rattle.nor_script.specs.declared.error.ScriptError.{ScriptError}
+use Rattle.nor_script.specs.declared.error.ScriptError.TheVariants.{BadLine, BadCaller, TooManyLines, NoMemory}
+use Rattle.nor_script.specs.declared.line.Line.{Line}
+use Rattle.norbank.specs.Endings.{Ending, ends, refused_ending, unfound_ending, chips_of_file}
+use Rattle.norbank.specs.Says.{Says, IsFound, EndsIn, Lacks, took}
+use Rattle.norbank.specs.Text.{line_of, no_memory, not_built, too_large, absent, read_fault}
+
+-- ---- texts
+
+abbrev pub kind_text : LineKind → List ℕ
+kind_text Bytes = codes "bytes"
+kind_text Word = codes "word"
+kind_text Count = codes "count"
+kind_text Number = codes "number"
+kind_text Hex = codes "hex"
+kind_text NotHere = codes "not here"
+
+abbrev pub bad_line : ℕ → List ℕ → List ℕ
+bad_line line kind = codes "script: line " ++ decimal line ++ line_of (codes ": ") kind
+
+-- a text that is no script
+abbrev pub script_ending : ScriptError → Ending
+script_ending (BadLine line kind) = ends 4 (bad_line line (kind_text kind))
+script_ending (BadCaller line) = ends 4 (bad_line line (codes "caller"))
+script_ending TooManyLines = ends 4 (codes "script: too many lines\n")
+script_ending NoMemory = ends 9 no_memory
+
+abbrev pub script_too_large : List ℕ
+script_too_large = codes "script: too large\n"
+
+abbrev pub write_fault : List ℕ → List ℕ
+write_fault name = line_of (codes "write fault ") name
+
+-- ---- how a run stops before its first call, in the order of the work
+
+-- on probing, and what the table offers
+abbrev pub IsProbeStop : ℕ → List ChipState → Ending → Type 0
+IsProbeStop width chips ending =
+    ((error : ProbeError) × (refusal width chips ≡ Some error) × (ending ≡ unfound_ending error))
+    ⊎ (HasLocks width chips true × (ending ≡ ends 11 not_built))
+
+-- on the lines of the script
+abbrev pub IsLinesStop : List Line → ℕ → List ChipState → Ending → Type 0
+IsLinesStop lines width chips ending =
+    ((are_built lines ≡ false) × (ending ≡ ends 11 not_built)) ⊎ ((are_built lines ≡ true) × IsProbeStop width chips ending)
+
+abbrev pub IsScriptStop : Result (List Line) ScriptError → ℕ → List ChipState → Ending → Type 0
+IsScriptStop (Err error) width chips ending = ending ≡ script_ending error
+IsScriptStop (Ok lines) width chips ending = IsLinesStop lines width chips ending
+
+-- on the chips of the bank
+abbrev pub IsBankStop : ℕ → List ChipState → List ℕ → Ending → Type 0
+IsBankStop width chips text ending =
+    ((is_built_bank chips ≡ false) × (ending ≡ ends 11 not_built))
+    ⊎ ((is_built_bank chips ≡ true) × IsScriptStop (script_of false text) width chips ending)
+
+-- on the bytes of the image
+abbrev pub IsFileStop : List ℕ → List ℕ → Ending → Type 0
+IsFileStop file text ending =
+    ((error : ImageError) × (image_refusal file ≡ Some error) × (ending ≡ refused_ending error))
+    ⊎ ((image_refusal file ≡ None) × IsBankStop (width_of file) (chips_of_file file) text ending)
+
+-- on what is under the script's name, and under the image's
+abbrev pub IsTextStop : List ℕ → Option (List ℕ) → List ℕ → Ending → Type 0
+IsTextStop file None script_name ending = ending ≡ ends 8 (absent script_name)
+IsTextStop file (Some text) script_name ending =
+    ((2 ^ 30 < length text) × (ending ≡ ends 4 script_too_large)) ⊎ ((length text ≤ 2 ^ 30) × IsFileStop file text ending)
+
+abbrev pub IsStop : Option (List ℕ) → Option (List ℕ) → (image_name script_name : List ℕ) → Ending → Type 0
+IsStop None text image_name script_name ending = ending ≡ ends 8 (absent image_name)
+IsStop (Some file) text image_name script_name ending =
+    ((2 ^ 30 < length file) × (ending ≡ ends 3 too_large)) ⊎ ((length file ≤ 2 ^ 30) × IsTextStop file text script_name ending)
+
+-- ---- what becomes of the shelf
+
+-- the files that a shelf tells, and its counts of faults, before and after
+pub record Shelved : Type 0 where
+  pub before : Option FileMap
+  pub after : Option FileMap
+  pub faults_before : ℕ
+  pub faults_after : ℕ
+
+abbrev pub shelved : Option FileMap → Option FileMap → ℕ → ℕ → Shelved
+shelved before after faults_before faults_after =
+    record { before = before; after = after; faults_before = faults_before; faults_after = faults_after }
+
+-- Something stops in one of these ways, or for want of memory, and no file has changed.
+pub record Stops (IsEnding : Ending → Type 0) (shelf : Shelved) (taken : Taken) (status : ℕ) : Type 0 where
+  pub kept : shelf.after ≡ shelf.before
+  pub says : EndsIn IsEnding taken status ⊎ Lacks taken status
+
+-- 0, and 6 where the bank halted
+abbrev pub status_of : Bool → ℕ
+status_of true = 6
+status_of false = 0
+
+-- The bank was saved under its name; or it wasn't, which is told, and no file has changed.
+abbrev pub Saved : (name saved : List ℕ) → Ran → Shelved → Taken → ℕ → Type 0
+Saved name saved ran shelf taken status =
+    ((status ≡ status_of ran.halted) × Saves shelf.before name saved shelf.after × (taken.after ≡ taken.before))
+    ⊎ ((shelf.after ≡ shelf.before)
+    × ((Rose shelf.faults_before shelf.faults_after × Says (ends 7 (write_fault name)) taken status) ⊎ Lacks taken status))
+
+-- ---- a run
+
+-- The report was put whole, and then the bank was to be saved.
+pub record ReportsWhole (width : ℕ) (lines : List Line) (bus : BusState) (name : List ℕ) (shelf : Shelved) (taken : Taken) (status : ℕ) : Type 0 where
+  pub ran : Ran
+  pub saved : List ℕ
+  pub mid : Option (List ℕ)
+  pub faults : ℕ
+  pub runs : AllLanes ShowsQry bus → RunsImage width lines bus taken.before mid ran saved
+  pub later : taken.faults_before ≤ faults
+  pub ends : Saved name saved ran shelf (took mid taken.after faults taken.faults_after) status
+
+-- It wasn't put whole, which the sink's count tells, or for want of memory; and no file has changed.
+pub record ReportsPart (width : ℕ) (lines : List Line) (bus : BusState) (shelf : Shelved) (taken : Taken) (status : ℕ) : Type 0 where
+  pub kept : shelf.after ≡ shelf.before
+  pub runs : AllLanes ShowsQry bus → (new : BusState) × RunsPartly width lines bus new taken.before taken.after
+  pub ends : ((status ≡ 7) × Rose taken.faults_before taken.faults_after) ⊎ (status ≡ 9)
+
+abbrev pub Runs : ℕ → List Line → BusState → List ℕ → Shelved → Taken → ℕ → Type 0
+Runs width lines bus name shelf taken status =
+    ReportsWhole width lines bus name shelf taken status ⊎ ReportsPart width lines bus shelf taken status
+
+-- the bus that a loaded bank of these chips has
+abbrev pub fresh_bus : List ChipState → BusState
+fresh_bus chips = record { lanes = chips; power = true; armed = None; cycles = 0; failed = 0 }
+
+-- The file is a bank's for which running is built, probing accepts it, its table offers no locks, and the text is a script
+-- of such lines.
+pub record CanRunFile (file text : List ℕ) (lines : List Line) : Type 0 where
+  pub formed : image_refusal file ≡ None
+  pub built : is_built_bank (chips_of_file file) ≡ true
+  pub script : script_of false text ≡ Ok lines
+  pub lines_built : are_built lines ≡ true
+  pub locks : HasLocks (width_of file) (chips_of_file file) false
+
+-- ---- stage by stage
+
+abbrev pub BuiltRuns : ℕ → List Line → BusState → List ℕ → Shelved → Taken → ℕ → Type 0
+BuiltRuns width lines bus name shelf taken status =
+    Stops (IsProbeStop width bus.lanes) shelf taken status
+    ⊎ (HasLocks width bus.lanes false × Runs width lines bus name shelf taken status)
+
+abbrev pub LinesRun : ℕ → List Line → BusState → List ℕ → Shelved → Taken → ℕ → Type 0
+LinesRun width lines bus name shelf taken status =
+    Stops (IsLinesStop lines width bus.lanes) shelf taken status
+    ⊎ ((are_built lines ≡ true) × HasLocks width bus.lanes false × Runs width lines bus name shelf taken status)
+
+-- a script of lines that are built was run
+pub record RunsText (width : ℕ) (text : List ℕ) (bus : BusState) (name : List ℕ) (shelf : Shelved) (taken : Taken) (status : ℕ) : Type 0 where
+  pub lines : List Line
+  pub built : is_built_bank bus.lanes ≡ true
+  pub script : script_of false text ≡ Ok lines
+  pub lines_built : are_built lines ≡ true
+  pub locks : HasLocks width bus.lanes false
+  pub runs : Runs width lines bus name shelf taken status
+
+abbrev pub TextRuns : ℕ → List ℕ → BusState → List ℕ → Shelved → Taken → ℕ → Type 0
+TextRuns width text bus name shelf taken status =
+    Stops (IsBankStop width bus.lanes text) shelf taken status ⊎ RunsText width text bus name shelf taken status
+
+-- on the bank that a file stands for
+pub record RunsFile (file text : List ℕ) (name : List ℕ) (shelf : Shelved) (taken : Taken) (status : ℕ) : Type 0 where
+  pub lines : List Line
+  pub can : CanRunFile file text lines
+  pub runs : Runs (width_of file) lines (fresh_bus (chips_of_file file)) name shelf taken status
+
+abbrev pub FileRuns : (file text : List ℕ) → List ℕ → Shelved → Taken → ℕ → Type 0
+FileRuns file text name shelf taken status = Stops (IsFileStop file text) shelf taken status ⊎ RunsFile file text name shelf taken status
+
+-- A file couldn't be read, which the shelf's count tells.
+pub record ReadFails (name : List ℕ) (shelf : Shelved) (taken : Taken) (status : ℕ) : Type 0 where
+  pub kept : shelf.after ≡ shelf.before
+  pub rose : Rose shelf.faults_before shelf.faults_after
+  pub says : Says (ends 7 (read_fault name)) taken status
+
+-- what is under the script's name, as far as the shelf tells it, says how the run stops
+pub record IsToldText (told : Option FileMap) (file script_name : List ℕ) (ending : Ending) : Type 0 where
+  pub text : Option (List ℕ)
+  pub is_text : IsFound told script_name text
+  pub is : IsTextStop file text script_name ending
+
+-- the script under the name was run
+pub record RunsNamed (file name script_name : List ℕ) (shelf : Shelved) (taken : Taken) (status : ℕ) : Type 0 where
+  pub text : List ℕ
+  pub is_text : IsFound shelf.before script_name (Some text)
+  pub short : length text ≤ 2 ^ 30
+  pub runs : RunsFile file text name shelf taken status
+
+abbrev pub NamedRuns : (file name script_name : List ℕ) → Shelved → Taken → ℕ → Type 0
+NamedRuns file name script_name shelf taken status =
+    Stops (IsToldText shelf.before file script_name) shelf taken status
+    ⊎ (ReadFails script_name shelf taken status ⊎ RunsNamed file name script_name shelf taken status)
+
+-- and what is under both names
+pub record IsToldStop (told : Option FileMap) (name script_name : List ℕ) (ending : Ending) : Type 0 where
+  pub file : Option (List ℕ)
+  pub is_file : IsFound told name file
+  pub text : Option (List ℕ)
+  pub is_text : IsFound told script_name text
+  pub is : IsStop file text name script_name ending
+
+-- The script was run on the bank.
+pub record RunsTold (name script_name : List ℕ) (shelf : Shelved) (taken : Taken) (status : ℕ) : Type 0 where
+  pub file : List ℕ
+  pub is_file : IsFound shelf.before name (Some file)
+  pub few_bytes : length file ≤ 2 ^ 30
+  pub runs : RunsNamed file name script_name shelf taken status
+
+-- The image was read, and then the script couldn't be.
+pub record ScriptFails (name script_name : List ℕ) (shelf : Shelved) (taken : Taken) (status : ℕ) : Type 0 where
+  pub file : List ℕ
+  pub is_file : IsFound shelf.before name (Some file)
+  pub few_bytes : length file ≤ 2 ^ 30
+  pub fails : ReadFails script_name shelf taken status
+
+-- A run stops as the files under its names say, or as one of them can't be read, or the script was run.
+abbrev pub RunEnds : (name script_name : List ℕ) → Shelved → Taken → ℕ → Type 0
+RunEnds name script_name shelf taken status =
+    Stops (IsToldStop shelf.before name script_name) shelf taken status
+    ⊎ ((ReadFails name shelf taken status ⊎ ScriptFails name script_name shelf taken status) ⊎ RunsTold name script_name shelf taken status)
