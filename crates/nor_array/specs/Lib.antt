@@ -2,6 +2,7 @@ pub mod Admits
 pub mod After
 pub mod Array
 pub mod Consts
+pub mod Entries
 pub mod Fits
 pub mod Laws
 pub mod Legal

@@ -3,6 +3,7 @@ pub mod Asking
 pub mod BankBytes
 pub mod Blocks
 pub mod Copying
+pub mod Keeping
 pub mod Known
 pub mod Lasting
 pub mod OneWord
@@ -16,5 +17,6 @@ pub mod Standing
 pub mod Starting
 pub mod Storing
 pub mod Tables
+pub mod Using
 pub mod WordByWord
 pub mod Wording

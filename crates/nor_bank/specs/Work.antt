@@ -1,9 +1,11 @@
 -- What a call asks of the bus, and what it leaves as it was.
-use Rattle.std.specs.Prelude.{◌≡◌, ◌≢◌, ◌<◌, ◌≤◌, ◌+◌, ℕ, List, [], ◌∷◌, length, nat_lt, Option, Some, None}
+use Rattle.std.specs.Prelude.{◌≡◌, ◌≢◌, ◌<◌, ◌≤◌, ◌+◌, ℕ, List, [], ◌∷◌, length, nat_lt, true, false, Option, Some, None}
 use Rattle.std.specs.Option.{option_or, option_map}
-use Rattle.nor_bus.specs.Bus.{BusState}
+use Rattle.nor_bus.specs.Bus.{BusState, more}
+use Rattle.nor_bus.specs.declared.bus.Armed.{Armed}
 use Rattle.nor_bus.specs.Cycles.{BusFails, KeepsLanes}
 use Rattle.nor_bus.specs.Driven.{AllLanes, Went}
+use Rattle.nor_array.specs.Array.{ArrayState, is_locked}
 use Rattle.nor_array.specs.Refusals.{when, first_some}
 use Rattle.nor_array.specs.declared.entry.Halted.{Halted as HaltCause}
 use Rattle.nor_array.specs.declared.entry.Halted.TheVariants.{Off, Stuck}
@@ -15,12 +17,25 @@ use Rattle.nor_poll.specs.Word.{word_most}
 use Rattle.nor_poll.specs.declared.lanes.Halt.{Halt}
 use Rattle.nor_bank.specs.Programs.{CanProgram, ProgramsTo, Unchanging, LeavesBy, IsSound}
 use Rattle.nor_bank.specs.Ranges.{words_met}
+use Rattle.nor_bank.specs.Stands.{Stands}
 use Rattle.nor_bank.specs.State.{BankState, size_of}
 
 -- At most so many cycles were asked for, the one that failed among them.
 pub record Asks (most : ℕ) (old new : BusState) : Type 0 where
   pub cycles : new.cycles ≤ old.cycles + most
   pub failing : new.failed ≢ old.failed → new.cycles < old.cycles + most
+
+-- an armed cut that is no further away than it was
+abbrev pub NoFurther : Option Armed → Option Armed → Type 0
+NoFurther None None = Unit {0}
+NoFurther (Some old) (Some new) = (new.after ≤ old.after) × (new.mask ≡ old.mask)
+NoFurther None (Some new) = ⊥
+NoFurther (Some old) None = ⊥
+
+-- No failed cycle is forgotten, and while power stays on the armed cut stays armed and is no further away.
+pub record UsesBus (old new : BusState) : Type 0 where
+  pub failed : more 0 old.failed ≤ new.failed
+  pub armed : new.power ≡ true → NoFurther old.armed new.armed
 
 -- a range that the bank doesn't have, or that is longer than a call may be
 abbrev pub range_refusal : (size at len : ℕ) → Option Reply
@@ -53,6 +68,12 @@ pub record Keeps (old new : BankState) (reply : Reply) : Type 0 where
   pub lanes : KeepsLanes old.bus new.bus
   pub erase : old.erase ≡ None → new.erase ≡ None
 
+-- The same of several calls.
+pub record KeepsBank (old new : BankState) : Type 0 where
+  pub found : new.found ≡ old.found
+  pub erase : old.erase ≡ None → new.erase ≡ None
+  pub lanes : KeepsLanes old.bus new.bus
+
 -- A halt of an earlier call is answered again.
 pub record AnswersKept (cause : HaltCause) (old new : BankState) (reply : Reply) : Type 0 where
   pub answer : reply ≡ Halted cause
@@ -76,6 +97,14 @@ ProgramAnswers lanes after at len _ = ⊥
 -- What programs are built for: banks of which no chip has a weak place.
 abbrev pub IsBuilt : BankState → Type 0
 IsBuilt b = AllLanes IsSound b.bus
+
+-- The bank stands for an array, and its calls are built for both today: nothing is under erase, no place is weak, and no block
+-- is locked.
+pub record CanCall (b : BankState) (a : ArrayState) : Type 0 where
+  pub stands : Stands b a
+  pub closed : b.erase ≡ None
+  pub built : IsBuilt b
+  pub unlocked : (n : ℕ) → is_locked a n ≡ false
 
 -- how often a word may be read working
 abbrev pub word_limit : BankState → ℕ

@@ -17,8 +17,8 @@ use Rattle.nor_bank.specs.Calls.{Makes, MakesEntry, entry_of}
 use Rattle.nor_bank.specs.Programs.{Lasts}
 use Rattle.nor_bank.specs.Stands.{Stands}
 use Rattle.nor_bank.specs.State.{BankState}
-use Rattle.nor_bank.specs.Work.{IsBuilt, range_refusal}
-use Rattle.nor_run.specs.Running.{CanRun, KeepsBank, PutsReply, RunsCall, RunsWord, line_of_entry}
+use Rattle.nor_bank.specs.Work.{IsBuilt, CanCall, range_refusal}
+use Rattle.nor_run.specs.Running.{PutsReply, RunsCall, RunsWord, line_of_entry}
 
 -- ---- what is told of an entry is told of its call
 
@@ -51,13 +51,6 @@ lasts_self b a stands = λ c below. record {
   bytes = (stands.known.wired.chips c below).chip.bytes;
 }
 
-pub keeps_self : (b : BankState) → KeepsBank b b
-keeps_self b = record {
-  found = refl;
-  erase = λ closed. closed;
-  lanes = record { count = refl; each = λ c below. record { part = refl; size = refl; locks = refl; bytes = λ small. small } };
-}
-
 -- ---- calls
 
 -- no block is locked of those that a call touches
@@ -76,7 +69,7 @@ none_locked a at new unlocked =
 
 -- a read
 pub read_runs : (old new : BankState) (a : ArrayState) (caller at len position : ℕ) (into given : List ℕ) (reply : Reply) (taken : Taken) (result : Result Reply SinkError)
-    → CanRun old a → length into ≡ len
+    → CanCall old a → length into ≡ len
     → (old.erase ≡ None → Makes old new (entry_of old new caller (Read at (length into)) reply given))
     → EachLane Lasts old.bus new.bus
     → PutsReply (entry_line position caller (Read at len) reply given) reply taken result
@@ -92,7 +85,7 @@ read_runs old new a caller at len position into given reply taken result can is 
 
 -- a program
 pub program_runs : (old new : BankState) (a : ArrayState) (caller at position : ℕ) (bytes : List ℕ) (op : Op) (reply : Reply) (taken : Taken) (result : Result Reply SinkError)
-    → op ≡ Program at bytes → CanRun old a
+    → op ≡ Program at bytes → CanCall old a
     → (old.erase ≡ None → IsBuilt old → (x : ArrayState) → Stands old x → first_locked x (Program at bytes) ≡ None
     → MakesEntry old new (entry_of old new caller (Program at bytes) reply []) x)
     → (old.erase ≡ None → IsBuilt old → (x : ArrayState) → Stands old x → first_locked x (Program at bytes) ≡ None → EachLane Lasts old.bus new.bus)
@@ -116,7 +109,7 @@ fits_call size at len none = grind (arith, none)
 
 -- a read that is refused
 pub refused_runs : (b : BankState) (a : ArrayState) (caller at len n position : ℕ) (reply : Reply) (taken : Taken) (result : Result Reply SinkError)
-    → CanRun b a → n ≡ len
+    → CanCall b a → n ≡ len
     → (b.erase ≡ None → (k : ℕ) → Makes b b (entry_of b b k (Read at n) reply []))
     → PutsReply (entry_line position caller (Read at len) reply []) reply taken result
     → RunsCall caller (Read at len) position b b a taken result

@@ -1,8 +1,8 @@
 -- A history that grows, line by line.
-use Rattle.std.proofs.Common.{◌≡◌, ◌<◌, ◌≤◌, ◌+◌, ◌∙◌, ◌||◌, ◌&&◌, IfErr, ◌++◌, ◌∷◌, ℕ, zero, suc, List, [], length, take, map, get_or, slice_index_or, Bool, true, false, Option, Some, None, Result, Ok, Err, refl, sym, ap, subst, arith, append_assoc, append-nil}
+use Rattle.std.proofs.Common.{◌≡◌, ◌<◌, ◌≤◌, ◌+◌, ◌∙◌, ◌||◌, ◌&&◌, IfOk, IfErr, ◌++◌, ◌∷◌, ℕ, zero, suc, List, [], length, take, map, get_or, slice_index_or, Bool, true, false, Option, Some, None, Result, Ok, Err, refl, sym, ap, subst, arith, append_assoc, append-nil}
 use Rattle.std.proofs.lemmas.List.{length-append, take_all}
 use Rattle.std.proofs.Math.Seq.{take-suc}
-use Rattle.nor_io.specs.Files.{Appends, AppendsPart}
+use Rattle.nor_io.specs.Files.{Rose, Appends, AppendsPart}
 use Rattle.nor_io.specs.declared.sink.SinkError.{SinkError}
 use Rattle.nor_io.specs.declared.sink.SinkError.TheVariants.{Fault, NoMemory}
 use Rattle.nor_io.proofs.Pieces.{Appends-append, AppendsPart-append}
@@ -10,7 +10,6 @@ use Rattle.nor_cell.specs.Chip.{ChipState, Part}
 use Rattle.nor_bus.specs.Bus.{BusState, lanes_of, chip_at}
 use Rattle.nor_bus.specs.Cycles.{KeepsLanes}
 use Rattle.nor_bus.specs.Driven.{EachLane}
-use Rattle.nor_bus.proofs.Driving.{keeps_then}
 use Rattle.nor_cell.specs.Table.{buffer_units_of}
 use Rattle.nor_query.specs.Derived.{suspend_of}
 use Rattle.nor_probe.specs.declared.probing.Found.{Found}
@@ -26,7 +25,8 @@ use Rattle.nor_array.specs.declared.entry.Reply.TheVariants.{Done, Opened, Erase
 use Rattle.nor_array.specs.declared.state.Power.{Power}
 use Rattle.nor_array.specs.declared.state.Power.TheVariants.{On, Off, Stuck}
 use Rattle.nor_array.proofs.Histories.{legal_more}
-use Rattle.nor_script.specs.Answering.{IsOf, AnswersWord, AnswersRun}
+use Rattle.nor_array.specs.Entries.{IsOf}
+use Rattle.nor_script.specs.Answering.{AnswersWord, AnswersRun}
 use Rattle.nor_script.specs.Puts.{Taken}
 use Rattle.nor_script.specs.Report.{entry_lines}
 use Rattle.nor_script.specs.declared.line.Line.{Line}
@@ -37,9 +37,11 @@ use Rattle.nor_bank.specs.Calls.{MakesEntry, facts_of}
 use Rattle.nor_bank.specs.Programs.{Lasts}
 use Rattle.nor_bank.specs.Stands.{Stands}
 use Rattle.nor_bank.specs.State.{BankState}
-use Rattle.nor_bank.specs.Work.{IsBuilt}
+use Rattle.nor_bank.specs.Work.{IsBuilt, CanCall, KeepsBank}
 use Rattle.nor_run.specs.Built.{is_built_call, is_built_word, are_built}
-use Rattle.nor_run.specs.Running.{CanRun, KeepsBank, PutsReply, RunsCall, RunsWord, IsHistoryOf, RunsWhole, RunsPart, line_of_entry, is_halt, has_halt}
+use Rattle.nor_run.specs.Running.{PutsReply, RunsCall, RunsWord, IsHistoryOf, RunsWhole, RunsPart, RunsLines, EndsLines, line_of_entry, is_halt, has_halt}
+use Rattle.nor_run.specs.Started.{of_put}
+use Rattle.nor_run.specs.declared.error.RunError.{RunError}
 use Rattle.nor_run.specs.declared.lines.Ran.{Ran}
 use Rattle.nor_run.proofs.Calling.{lasts_self}
 
@@ -49,7 +51,7 @@ pub after_last : (a : ArrayState) (es : List Entry) (e : Entry) → after_all a 
 after_last a [] e = refl
 after_last a (x ∷ es) e = after_last (after a x) es e
 
-lines_last : (position : ℕ) (es : List Entry) (e : Entry) → entry_lines position (es ++ e ∷ []) ≡ entry_lines position es ++ line_of_entry (position + length es) e
+pub lines_last : (position : ℕ) (es : List Entry) (e : Entry) → entry_lines position (es ++ e ∷ []) ≡ entry_lines position es ++ line_of_entry (position + length es) e
 lines_last position [] e =
     let here : position ≡ position + 0 = omega arith in
     append-nil (line_of_entry position e) ∙ ap (λ (n : ℕ). line_of_entry n e) here
@@ -66,7 +68,7 @@ or_false : (x : Bool) → (x || false) ≡ x
 or_false true = refl
 or_false false = refl
 
-halt_last : (es : List Entry) (e : Entry) → has_halt (es ++ e ∷ []) ≡ (has_halt es || is_halt e.reply)
+pub halt_last : (es : List Entry) (e : Entry) → has_halt (es ++ e ∷ []) ≡ (has_halt es || is_halt e.reply)
 halt_last [] e = or_false (is_halt e.reply)
 halt_last (x ∷ es) e = ap (λ (b : Bool). is_halt x.reply || b) (halt_last es e) ∙ or_assoc (is_halt x.reply) (has_halt es) (is_halt e.reply)
 
@@ -100,13 +102,6 @@ same_facts old new keeps =
     let found = keeps.found in
     let stuck = same_map old.bus.lanes new.bus.lanes keeps.lanes.count (λ c below. (keeps.lanes.each c below).part) in
     λ i. facts_from (found i) (stuck i)
-
-pub keeps_bank_then : (x y z : BankState) → KeepsBank x y → KeepsBank y z → KeepsBank x z
-keeps_bank_then x y z first next = record {
-  found = next.found ∙ first.found;
-  erase = λ closed. next.erase (first.erase closed);
-  lanes = keeps_then x.bus y.bus z.bus first.lanes next.lanes;
-}
 
 pub lasts_then : (x y z : BusState) → KeepsLanes x y → EachLane Lasts x y → EachLane Lasts y z → EachLane Lasts x z
 lasts_then x y z keeps first next = λ c below.
@@ -191,13 +186,13 @@ still_unlocked a e built unlocked n =
 -- The first n lines were run, and more can be.
 pub record RunsSoFar (lines : List Line) (n : ℕ) (old now : BankState) (a : ArrayState) (before after : Option (List ℕ)) (ran : Ran) : Type 0 where
   pub history : List Entry
-  pub is : IsHistoryOf (take n lines) old now a history
+  pub is : IsHistoryOf false (take n lines) old now a history
   pub text : Appends before (entry_lines 0 history) after
   pub entries : ran.entries ≡ length history
   pub halted : ran.halted ≡ has_halt history
-  pub can : CanRun now (after_all a history)
+  pub can : CanCall now (after_all a history)
 
-pub no_line : (lines : List Line) (b : BankState) (a : ArrayState) (before : Option (List ℕ)) → CanRun b a
+pub no_line : (lines : List Line) (b : BankState) (a : ArrayState) (before : Option (List ℕ)) → CanCall b a
     → RunsSoFar lines 0 b b a before before (record { entries = 0; halted = false })
 no_line lines b a before can = record {
   history = [];
@@ -211,8 +206,8 @@ no_line lines b a before can = record {
 -- an entry of a line behind a history of those before
 pub one_more : (lines : List Line) (n : ℕ) (line : Line) (op : Op) (old now new : BankState) (a : ArrayState) (es : List Entry) (e : Entry)
     → n < length lines → get_or lines n line ≡ line → line.word ≡ Call op → IsOf line.caller op e
-    → KeepsBank old now → IsHistoryOf (take n lines) old now a es → MakesEntry now new e (after_all a es) → EachLane Lasts now.bus new.bus
-    → IsHistoryOf (take (suc n) lines) old new a (es ++ e ∷ [])
+    → KeepsBank old now → IsHistoryOf false (take n lines) old now a es → MakesEntry now new e (after_all a es) → EachLane Lasts now.bus new.bus
+    → IsHistoryOf false (take (suc n) lines) old new a (es ++ e ∷ [])
 one_more lines n line op old now new a es e below at word of keeps is makes lasts = record {
   legal = legal_more (facts_of old) a es e is.legal makes.admitted (subst (λ (f : Facts). Agrees f (after_all a es) e) (same_facts old now keeps) makes.agrees);
   answers =
@@ -225,7 +220,7 @@ one_more lines n line op old now new a es e below at word of keeps is makes last
 }
 
 -- its text behind theirs
-text_more : (es : List Entry) (e : Entry) (n : ℕ) → n ≡ length es → entry_lines 0 (es ++ e ∷ []) ≡ entry_lines 0 es ++ line_of_entry n e
+pub text_more : (es : List Entry) (e : Entry) (n : ℕ) → n ≡ length es → entry_lines 0 (es ++ e ∷ []) ≡ entry_lines 0 es ++ line_of_entry n e
 text_more es e n is =
     let there : 0 + length es ≡ n = omega (arith, is) in
     lines_last 0 es e ∙ ap (λ (k : ℕ). entry_lines 0 es ++ line_of_entry k e) there
@@ -268,7 +263,7 @@ word_more lines n line (Call op) old now new a before mid after f g ran reply be
 word_more lines n line (Erase b) old now new a before mid after f g ran reply below at word built keeps next so runs = absurd runs
 
 -- its entry wasn't put whole
-part_put : (text : List ℕ) (reply : Reply) (taken : Taken) (error : SinkError) → PutsReply text reply taken (Err error) → AppendsPart taken.before text taken.after
+pub part_put : (text : List ℕ) (reply : Reply) (taken : Taken) (error : SinkError) → PutsReply text reply taken (Err error) → AppendsPart taken.before text taken.after
 part_put text reply taken Fault puts = puts.1
 part_put text reply taken NoMemory puts = puts
 
@@ -276,13 +271,14 @@ pub word_stopped : (lines : List Line) (n : ℕ) (line : Line) (word : Word) (ol
     → n < length lines → get_or lines n line ≡ line → line.word ≡ word → KeepsBank old now
     → (so : RunsSoFar lines n old now a before mid ran)
     → RunsWord word line.caller ran.entries now new (after_all a so.history) (record { before = mid; after = after; faults_before = f; faults_after = g }) (Err error)
-    → RunsPart lines old new a before after
+    → RunsPart false lines old new a before after
 word_stopped lines n line (Erase b) old now new a before mid after f g ran error below at word keeps so runs = absurd runs
 word_stopped lines n line (Call op) old now new a before mid after f g ran error below at word keeps so runs =
     let e = runs.entry in
     record {
       history = so.history ++ e ∷ [];
       count = suc n;
+      all = tt;
       is = one_more lines n line op old now new a so.history e below at word runs.is keeps so.is runs.makes runs.lasts;
       text = subst (λ (t : List ℕ). AppendsPart before t after) (sym (text_more so.history e ran.entries so.entries))
           (AppendsPart-append before mid after (entry_lines 0 so.history) (line_of_entry ran.entries e) so.text
@@ -291,10 +287,10 @@ word_stopped lines n line (Call op) old now new a before mid after f g ran error
 
 -- all lines were
 pub all_run : (lines : List Line) (n : ℕ) (old new : BankState) (a : ArrayState) (before after : Option (List ℕ)) (ran : Ran)
-    → length lines ≤ n → RunsSoFar lines n old new a before after ran → RunsWhole lines old new a before after ran
+    → length lines ≤ n → RunsSoFar lines n old new a before after ran → RunsWhole false lines old new a before after ran
 all_run lines n old new a before after ran over so = record {
   history = so.history;
-  is = subst (λ (ls : List Line). IsHistoryOf ls old new a so.history) (take_all n lines over) so.is;
+  is = subst (λ (ls : List Line). IsHistoryOf false ls old new a so.history) (take_all n lines over) so.is;
   text = so.text;
   entries = so.entries;
   halted = so.halted;
@@ -305,11 +301,11 @@ pub err_is : {T E : Type 0} (r : Result T E) (P : Type 0) → P → IfErr r (λ 
 err_is (Ok x) P is = tt
 err_is (Err e) P is = is
 
-and_first : (x y : Bool) → (x && y) ≡ true → x ≡ true
+pub and_first : (x y : Bool) → (x && y) ≡ true → x ≡ true
 and_first true y is = refl
 and_first false y is = is
 
-and_second : (x y : Bool) → (x && y) ≡ true → y ≡ true
+pub and_second : (x y : Bool) → (x && y) ≡ true → y ≡ true
 and_second true y is = is
 and_second false y is = absurd (false_true is)
 
@@ -318,3 +314,29 @@ pub line_built : (lines : List Line) (n : ℕ) (line : Line) → n < length line
 line_built [] n line below built = absurd (omega arith)
 line_built (x ∷ lines) zero line below built = and_first (is_built_word x.word) (are_built lines) built
 line_built (x ∷ lines) (suc n) line below built = line_built lines n line (omega arith) (and_second (is_built_word x.word) (are_built lines) built)
+
+-- ---- what one thread puts
+
+put_runs_as : (lines : List Line) (old new : BankState) (a : ArrayState) (taken : Taken) (ran : Result Ran SinkError) → CanCall old a
+    → IfOk ran (λ r. (x : ArrayState) → CanCall old x → RunsWhole false lines old new x taken.before taken.after r)
+    → IfErr ran (λ e. (x : ArrayState) → CanCall old x → RunsPart false lines old new x taken.before taken.after)
+    → RunsLines false lines old new a taken (of_put ran)
+put_runs_as lines old new a taken (Ok r) can whole part = whole a can
+put_runs_as lines old new a taken (Err e) can whole part = part a can
+
+pub put_runs : (lines : List Line) (old new : BankState) (a : ArrayState) (taken : Taken) (ran : Result Ran SinkError) (result : Result Ran RunError) → CanCall old a → result ≡ of_put ran
+    → IfOk ran (λ r. (x : ArrayState) → CanCall old x → RunsWhole false lines old new x taken.before taken.after r)
+    → IfErr ran (λ e. (x : ArrayState) → CanCall old x → RunsPart false lines old new x taken.before taken.after)
+    → RunsLines false lines old new a taken result
+put_runs lines old new a taken ran result can put whole part =
+    subst (λ (r : Result Ran RunError). RunsLines false lines old new a taken r) (sym put) (put_runs_as lines old new a taken ran can whole part)
+
+-- it stops for want of nothing but the sink
+put_ends_as : (race : Bool) (taken : Taken) (ran : Result Ran SinkError) → (ran ≡ Err Fault → Rose taken.faults_before taken.faults_after) → EndsLines race taken (of_put ran)
+put_ends_as race taken (Ok r) fault = tt
+put_ends_as race taken (Err Fault) fault = fault refl
+put_ends_as race taken (Err NoMemory) fault = tt
+
+pub put_ends : (race : Bool) (taken : Taken) (ran : Result Ran SinkError) (result : Result Ran RunError) → result ≡ of_put ran → (ran ≡ Err Fault → Rose taken.faults_before taken.faults_after)
+    → EndsLines race taken result
+put_ends race taken ran result put fault = subst (λ (r : Result Ran RunError). EndsLines race taken r) (sym put) (put_ends_as race taken ran fault)

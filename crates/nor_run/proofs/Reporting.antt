@@ -1,5 +1,5 @@
 -- From a bank that was started to the bank that was loaded.
-use Rattle.std.proofs.Common.{◌≡◌, ◌≢◌, ◌<◌, ◌*◌, ◌&&◌, ◌==◌, ◌∙◌, inr, not, ℕ, zero, suc, List, [], ◌∷◌, length, replicate, take, map, slice_index_or, Bool, true, false, Option, Some, None, Result, Ok, Err, IfOk, IfErr, refl, sym, ap, subst, arith}
+use Rattle.std.proofs.Common.{◌≡◌, ◌≢◌, ◌<◌, ◌≤◌, ◌*◌, ◌&&◌, ◌==◌, ◌∙◌, not, ℕ, zero, suc, List, [], ◌∷◌, length, replicate, take, map, slice_index_or, Bool, true, false, Option, Some, None, Result, Ok, Err, refl, sym, ap, subst, arith}
 use Rattle.std.specs.List.{list_all}
 use Rattle.nor_io.specs.Files.{Appends, AppendsPart}
 use Rattle.nor_io.specs.declared.sink.SinkError.{SinkError}
@@ -14,7 +14,7 @@ use Rattle.nor_cell.specs.declared.geometry.Geometry.{Geometry}
 use Rattle.nor_bus.specs.Bus.{BusState, IsBank, lane, chip_at, bank_byte, bank_bytes, bank_size}
 use Rattle.nor_bus.specs.Cycles.{KeepsLanes}
 use Rattle.nor_bus.specs.Driven.{AllLanes, EachLane, Lost}
-use Rattle.nor_bus.proofs.Driving.{still_none, some_lane}
+use Rattle.nor_bus.proofs.Driving.{keeps_then, still_none, some_lane}
 use Rattle.nor_cell.specs.Resting.{IsResting}
 use Rattle.nor_lane.specs.Candidates.{wiring}
 use Rattle.nor_probe.specs.Asking.{Resets}
@@ -41,21 +41,22 @@ use Rattle.nor_image.specs.Image.{IsImageOf}
 use Rattle.nor_image.specs.Written.{file_of, AreStorable, Stores}
 use Rattle.nor_cell.specs.Power.{powered}
 use Rattle.nor_run.specs.Built.{is_sound, is_built_bank}
-use Rattle.nor_run.specs.Running.{CanRun, KeepsBank, IsHistoryOf, RunsWhole, RunsPart, ReportsWhole, ReportsPart, counters_of}
-use Rattle.nor_run.specs.Scripts.{IsJustLoaded, ShowsQry, RunsImage, started, opening_of, HoldsBytes, RunsLegally, RunsScript, RunsPartly, EndsRun, Reports}
-use Rattle.nor_run.specs.Started.{of_put, EndsStarted, ReportsStarted}
+use Rattle.nor_bank.specs.Work.{CanCall, KeepsBank}
+use Rattle.nor_run.specs.Running.{IsCount, IsHistoryOf, RunsWhole, RunsPart, RunsLines, EndsLines, ReportsWhole, ReportsPart, ReportsLines, counters_of}
+use Rattle.nor_run.specs.Scripts.{IsJustLoaded, ShowsQry, RunsImage, started, opening_of, HoldsBytes, RunsLegally, EndsRun, Reports}
+use Rattle.nor_run.specs.Started.{IsStarted, Starts, Refuses}
 use Rattle.nor_run.specs.declared.error.RunError.{RunError}
-use Rattle.nor_run.specs.declared.error.RunError.TheVariants.{Probe, NotBuilt, Put}
+use Rattle.nor_run.specs.declared.error.RunError.TheVariants.{Probe, NotBuilt, NoMemory as Memory, Put}
 use Rattle.nor_run.specs.declared.lines.Ran.{Ran}
 use Rattle.nor_run.proofs.FileSizes.{still_storable}
 use Rattle.nor_run.proofs.JustLoaded.{quiet_rests, same_lanes, can_start}
 
 -- ---- the report behind the lines
 
-pub report_whole : (lines : List Line) (old new : BankState) (a : ArrayState) (before mid after : Option (List ℕ)) (ran : Ran)
-    → RunsWhole lines old new a before mid ran → Appends mid (totals_text (counters_of new.bus.lanes) ran.entries) after
-    → ReportsWhole lines old new a before after ran
-report_whole lines old new a before mid after ran runs totals = record {
+pub report_whole : (race : Bool) (lines : List Line) (old new : BankState) (a : ArrayState) (before mid after : Option (List ℕ)) (ran : Ran)
+    → RunsWhole race lines old new a before mid ran → Appends mid (totals_text (counters_of new.bus.lanes) ran.entries) after
+    → ReportsWhole race lines old new a before after ran
+report_whole race lines old new a before mid after ran runs totals = record {
   history = runs.history;
   is = runs.is;
   text = Appends-append before mid after (entry_lines 0 runs.history) (totals_text (counters_of new.bus.lanes) (length runs.history)) runs.text
@@ -68,41 +69,70 @@ part_text : (text : List ℕ) (taken : Taken) (error : SinkError) → PutsText t
 part_text text taken Fault puts = puts.1
 part_text text taken NoMemory puts = puts
 
-pub report_part : (lines : List Line) (old new : BankState) (a : ArrayState) (before mid after : Option (List ℕ)) (f g : ℕ) (ran : Ran) (error : SinkError)
-    → RunsWhole lines old new a before mid ran
+pub report_part : (race : Bool) (lines : List Line) (old new : BankState) (a : ArrayState) (before mid after : Option (List ℕ)) (f g : ℕ) (ran : Ran) (error : SinkError)
+    → RunsWhole race lines old new a before mid ran
     → PutsText (totals_text (counters_of new.bus.lanes) ran.entries) (record { before = mid; after = after; faults_before = f; faults_after = g }) (Err error)
-    → ReportsPart lines old new a before after
-report_part lines old new a before mid after f g ran error runs puts = record {
+    → ReportsPart race lines old new a before after
+report_part race lines old new a before mid after f g ran error runs puts = record {
   history = runs.history;
   count = length lines;
-  is = subst (λ (ls : List Line). IsHistoryOf ls old new a runs.history) (sym (whole_list lines)) runs.is;
+  all = whole_count race;
+  is = subst (λ (ls : List Line). IsHistoryOf race ls old new a runs.history) (sym (whole_list lines)) runs.is;
   text = AppendsPart-append before mid after (entry_lines 0 runs.history) (totals_text (counters_of new.bus.lanes) (length runs.history)) runs.text
       (subst (λ (n : ℕ). AppendsPart mid (totals_text (counters_of new.bus.lanes) n) after) runs.entries
       (part_text (totals_text (counters_of new.bus.lanes) ran.entries) (record { before = mid; after = after; faults_before = f; faults_after = g }) error puts));
 }
   where
+    whole_count : (b : Bool) → IsCount b lines (length lines)
+    whole_count false = tt
+    whole_count true = refl
+
     whole_list : (ls : List Line) → take (length ls) ls ≡ ls
     whole_list [] = refl
     whole_list (l ∷ ls) = ap (λ (rest : List Line). l ∷ rest) (whole_list ls)
 
-pub report_stopped : (lines : List Line) (old new : BankState) (a : ArrayState) (before after : Option (List ℕ)) → RunsPart lines old new a before after → ReportsPart lines old new a before after
-report_stopped lines old new a before after runs = record {
+pub report_stopped : (race : Bool) (lines : List Line) (old new : BankState) (a : ArrayState) (before after : Option (List ℕ)) → RunsPart race lines old new a before after → ReportsPart race lines old new a before after
+report_stopped race lines old new a before after runs = record {
   history = runs.history;
   count = runs.count;
+  all = runs.all;
   is = runs.is;
   text = AppendsPart-more before after (entry_lines 0 runs.history) (totals_text (counters_of new.bus.lanes) (length runs.history)) runs.text;
 }
 
--- ---- a bank that was just started
+-- the end of a report, put or not
+pub end_whole : (race : Bool) (lines : List Line) (old new : BankState) (bus : BusState) (a : ArrayState) (before mid after : Option (List ℕ)) (f m g : ℕ) (why : Result Ran RunError) (ran : Ran)
+    → why ≡ Ok ran → new.bus ≡ bus → RunsLines race lines old new a (record { before = before; after = mid; faults_before = f; faults_after = m }) why
+    → Appends mid (totals_text (counters_of bus.lanes) ran.entries) after → ReportsWhole race lines old new a before after ran
+end_whole race lines old new bus a before mid after f m g why ran is same runs totals =
+    report_whole race lines old new a before mid after ran
+    (subst (λ (r : Result Ran RunError). RunsLines race lines old new a (record { before = before; after = mid; faults_before = f; faults_after = m }) r) is runs)
+    (subst (λ (b : BusState). Appends mid (totals_text (counters_of b.lanes) ran.entries) after) (sym same) totals)
 
--- A bank was started on a bus whose chips showed their arrays.
-pub record IsStarted (width : ℕ) (bus : BusState) (b : BankState) : Type 0 where
-  pub is_found : IsFoundOn width bus.lanes b.found
-  pub lanes : b.bus.lanes ≡ bus.lanes
-  pub halted : b.halted ≡ None
-  pub erase : b.erase ≡ None
-  pub unarmed : b.bus.armed ≡ None
-  pub stands : Stands b (array_of b)
+pub end_part : (race : Bool) (lines : List Line) (old new : BankState) (bus : BusState) (a : ArrayState) (before mid after : Option (List ℕ)) (f m g : ℕ) (why : Result Ran RunError) (ran : Ran) (error : SinkError)
+    → why ≡ Ok ran → new.bus ≡ bus → RunsLines race lines old new a (record { before = before; after = mid; faults_before = f; faults_after = m }) why
+    → PutsText (totals_text (counters_of bus.lanes) ran.entries) (record { before = mid; after = after; faults_before = m; faults_after = g }) (Err error)
+    → ReportsPart race lines old new a before after
+end_part race lines old new bus a before mid after f m g why ran error is same runs totals =
+    report_part race lines old new a before mid after m g ran error
+    (subst (λ (r : Result Ran RunError). RunsLines race lines old new a (record { before = before; after = mid; faults_before = f; faults_after = m }) r) is runs)
+    (subst (λ (b : BusState). PutsText (totals_text (counters_of b.lanes) ran.entries) (record { before = mid; after = after; faults_before = m; faults_after = g }) (Err error)) (sym same) totals)
+
+pub end_fails : (race : Bool) (text : List ℕ) (before mid after : Option (List ℕ)) (f m g : ℕ) (error : SinkError) → f ≤ m
+    → PutsText text (record { before = mid; after = after; faults_before = m; faults_after = g }) (Err error)
+    → EndsLines race (record { before = before; after = after; faults_before = f; faults_after = g }) (Err (Put error))
+end_fails race text before mid after f m g Fault le puts = let rose = puts.0 in omega arith
+end_fails race text before mid after f m g NoMemory le puts = tt
+
+-- what was put of the lines is a part of the report, or nothing
+pub reports_failed : (race : Bool) (lines : List Line) (old new : BankState) (a : ArrayState) (taken : Taken) (error : RunError)
+    → RunsLines race lines old new a taken (Err error) → ReportsLines race lines old new a taken (Err error)
+reports_failed race lines old new a taken (Probe e) runs = runs
+reports_failed race lines old new a taken NotBuilt runs = runs
+reports_failed race lines old new a taken Memory runs = runs
+reports_failed race lines old new a taken (Put e) runs = report_stopped race lines old new a taken.before taken.after runs
+
+-- ---- a bank that was just started
 
 size_is : (b : BankState) → IsKnown b.found b.bus → size_of b.found ≡ bank_size b.bus.lanes
 size_is b known =
@@ -158,7 +188,7 @@ all_sound [] all c below = absurd (omega (arith, below))
 all_sound (s ∷ chips) all zero below = chip_sound s (and_parts (is_sound s) (list_all is_sound chips) all).0
 all_sound (s ∷ chips) all (suc c) below = all_sound chips (and_parts (is_sound s) (list_all is_sound chips) all).1 c (omega (arith, below))
 
-pub can_run : (width : ℕ) (bus : BusState) (b : BankState) → IsStarted width bus b → is_built_bank bus.lanes ≡ true → locks_of b.found.query.extended ≡ false → CanRun b (array_of b)
+pub can_run : (width : ℕ) (bus : BusState) (b : BankState) → IsStarted width bus b → is_built_bank bus.lanes ≡ true → locks_of b.found.query.extended ≡ false → CanCall b (array_of b)
 can_run width bus b is built none =
     let known = is.stands.known in
     let some = known_some b.found b.bus known in
@@ -189,9 +219,9 @@ holds_bytes b new a closed keeps stands =
           ∙ ap (λ (f : Found). bank_byte f.geometry.device new.bus.lanes p) keeps.found;
     }
 
-pub runs_legally : (width : ℕ) (bus : BusState) (lines : List Line) (b new : BankState) (es : List Entry) → IsStarted width bus b → locks_of b.found.query.extended ≡ false
-    → KeepsBank b new → IsHistoryOf lines b new (array_of b) es → RunsLegally width lines bus new.bus b.found es
-runs_legally width bus lines b new es is none keeps history =
+pub runs_legally : (race : Bool) (width : ℕ) (bus : BusState) (lines : List Line) (b new : BankState) (es : List Entry) → IsStarted width bus b → locks_of b.found.query.extended ≡ false
+    → KeepsBank b new → IsHistoryOf race lines b new (array_of b) es → RunsLegally race width lines bus new.bus b.found es
+runs_legally race width bus lines b new es is none keeps history =
     let open_ = opens width bus b is none in
     record {
       is_found = is.is_found;
@@ -208,42 +238,65 @@ runs_legally width bus lines b new es is none keeps history =
 
 -- ---- what was put
 
-pub reports : (width : ℕ) (bus : BusState) (lines : List Line) (b : BankState) (after : BusState) (taken : Taken) (result : Result Ran RunError)
-    → IsStarted width bus b → EndsStarted (locks_of b.found.query.extended) taken result → ReportsStarted lines b after (array_of b) taken result
-    → Reports width lines bus after taken result
-reports width bus lines b after taken (Ok ran) is ends told =
-    let all = told.3 in
-    subst (λ (x : BusState). RunsScript width lines bus x taken.before taken.after ran) told.1 (record {
-      found = b.found;
-      history = all.history;
-      runs = runs_legally width bus lines b told.0 all.history is ends told.2 all.is;
-      text = all.text;
-      entries = all.entries;
-      halted = all.halted;
-    })
-reports width bus lines b after taken (Err (Probe error)) is ends told = tt
-reports width bus lines b after taken (Err NotBuilt) is ends told = tt
-reports width bus lines b after taken (Err (Put error)) is ends told =
-    let all = told.3 in
-    subst (λ (x : BusState). RunsPartly width lines bus x taken.before taken.after) told.1 (record {
-      found = b.found;
-      history = all.history;
-      count = all.count;
-      runs = runs_legally width bus (take all.count lines) b told.0 all.history is (never error ends) told.2 all.is;
-      text = all.text;
-    })
-  where
-    never : (e : SinkError) → EndsStarted (locks_of b.found.query.extended) taken (Err (Put e)) → locks_of b.found.query.extended ≡ false
-    never Fault ends = ends.0
-    never NoMemory ends = ends
+reports_as : (race : Bool) (width : ℕ) (bus : BusState) (lines : List Line) (b new : BankState) (taken : Taken) (result : Result Ran RunError)
+    → IsStarted width bus b → locks_of b.found.query.extended ≡ false → KeepsBank b new → ReportsLines race lines b new (array_of b) taken result
+    → Reports race width lines bus new.bus taken result
+reports_as race width bus lines b new taken (Ok ran) is none keeps told = record {
+  found = b.found;
+  history = told.history;
+  runs = runs_legally race width bus lines b new told.history is none keeps told.is;
+  text = told.text;
+  entries = told.entries;
+  halted = told.halted;
+}
+reports_as race width bus lines b new taken (Err (Probe error)) is none keeps told = tt
+reports_as race width bus lines b new taken (Err NotBuilt) is none keeps told = tt
+reports_as race width bus lines b new taken (Err Memory) is none keeps told = tt
+reports_as race width bus lines b new taken (Err (Put error)) is none keeps told = record {
+  found = b.found;
+  history = told.history;
+  count = told.count;
+  all = told.all;
+  runs = runs_legally race width bus (take told.count lines) b new told.history is none keeps told.is;
+  text = told.text;
+}
 
-pub ends_run : (width : ℕ) (bus : BusState) (b : BankState) (taken : Taken) (result : Result Ran RunError) → is_built_bank bus.lanes ≡ true → IsFoundOn width bus.lanes b.found
-    → EndsStarted (locks_of b.found.query.extended) taken result → EndsRun width bus.lanes taken result
-ends_run width bus b taken (Ok ran) built is ends = (built, record { found = b.found; is_found = is; locks = ends })
-ends_run width bus b taken (Err (Probe error)) built is ends = absurd ends
-ends_run width bus b taken (Err NotBuilt) built is ends = (inr (built, record { found = b.found; is_found = is; locks = ends.0 }), ends.1)
-ends_run width bus b taken (Err (Put Fault)) built is ends = (built, record { found = b.found; is_found = is; locks = ends.0 }, ends.1)
-ends_run width bus b taken (Err (Put NoMemory)) built is ends = (built, record { found = b.found; is_found = is; locks = ends })
+pub reports : (race : Bool) (width : ℕ) (bus : BusState) (lines : List Line) (b new : BankState) (after : BusState) (taken : Taken) (result : Result Ran RunError)
+    → Starts width bus b → after ≡ new.bus → KeepsBank b new
+    → ((a : ArrayState) → CanCall b a → ReportsLines race lines b new a taken result)
+    → AllLanes ShowsQry bus → Reports race width lines bus after taken result
+reports race width bus lines b new after taken result starts same keeps told qry =
+    let is = starts.started qry in
+    subst (λ (x : BusState). Reports race width lines bus x taken result) (sym same)
+    (reports_as race width bus lines b new taken result is starts.locks keeps (told (array_of b) (can_run width bus b is starts.built starts.locks)))
+
+pub ends_run : (race : Bool) (width : ℕ) (bus : BusState) (b : BankState) (taken : Taken) (result : Result Ran RunError) → Starts width bus b → EndsLines race taken result
+    → EndsRun race width bus.lanes taken result
+ends_run race width bus b taken (Ok ran) starts ends = (starts.built, record { found = b.found; is_found = starts.is_found; locks = starts.locks })
+ends_run race width bus b taken (Err (Probe error)) starts ends = absurd ends
+ends_run race width bus b taken (Err NotBuilt) starts ends = absurd ends
+ends_run race width bus b taken (Err Memory) starts ends = (starts.built, record { found = b.found; is_found = starts.is_found; locks = starts.locks }, ends.0, ends.1)
+ends_run race width bus b taken (Err (Put Fault)) starts ends = (starts.built, record { found = b.found; is_found = starts.is_found; locks = starts.locks }, ends)
+ends_run race width bus b taken (Err (Put NoMemory)) starts ends = (starts.built, record { found = b.found; is_found = starts.is_found; locks = starts.locks })
+
+-- a bank that wasn't started: nothing is put
+pub refuses_run : (race : Bool) (width : ℕ) (chips : List ChipState) (before : Option (List ℕ)) (f : ℕ) (error : RunError) → Refuses width chips error
+    → EndsRun race width chips (record { before = before; after = before; faults_before = f; faults_after = f }) (Err error)
+refuses_run race width chips before f (Probe error) why = (why.0, why.1, why.2, record { text = refl; faults = refl })
+refuses_run race width chips before f NotBuilt why = (why, record { text = refl; faults = refl })
+refuses_run race width chips before f Memory why = absurd why
+refuses_run race width chips before f (Put error) why = absurd why
+
+pub refused_reports : (race : Bool) (width : ℕ) (lines : List Line) (chips : List ChipState) (old new : BusState) (taken : Taken) (error : RunError) → Refuses width chips error
+    → Reports race width lines old new taken (Err error)
+refused_reports race width lines chips old new taken (Probe error) why = tt
+refused_reports race width lines chips old new taken NotBuilt why = tt
+refused_reports race width lines chips old new taken Memory why = tt
+refused_reports race width lines chips old new taken (Put error) why = absurd why
+
+pub keeps_lanes : (bus after : BusState) (width : ℕ) (b new : BankState) → Starts width bus b → KeepsBank b new → after ≡ new.bus → KeepsLanes bus after
+keeps_lanes bus after width b new starts keeps same =
+    subst (λ (x : BusState). KeepsLanes bus x) (sym same) (keeps_then bus b.bus new.bus starts.kept keeps.lanes)
 
 -- what starting leaves of it
 pub starts_so : (width : ℕ) (bus : BusState) (b : BankState) (loaded : IsJustLoaded width bus) → AllLanes IsChip bus → AllLanes ShowsQry bus
@@ -270,34 +323,16 @@ pub refused_as : (width : ℕ) (bus new : BusState) (error : ProbeError) → IsJ
     → (error ≢ LostPower → AllLanes IsResting bus → refusal width bus.lanes ≡ Some error) → (error ≡ LostPower → Lost 524 bus new) → refusal width bus.lanes ≡ Some error
 refused_as width bus new error loaded refused lost = refused (λ is. never_lost width bus new loaded (lost is)) (all_rest width bus loaded)
 
--- ---- what a started bank reports
-
-by_put : (lines : List Line) (old new : BankState) (bus : BusState) (a : ArrayState) (taken : Taken) (ran : Result Ran SinkError)
-    → new.bus ≡ bus → KeepsBank old new → CanRun old a
-    → IfOk ran (λ r. (x : ArrayState) → CanRun old x → ReportsWhole lines old new x taken.before taken.after r)
-    → IfErr ran (λ e. (x : ArrayState) → CanRun old x → ReportsPart lines old new x taken.before taken.after)
-    → ReportsStarted lines old bus a taken (of_put ran)
-by_put lines old new bus a taken (Ok r) is keeps can whole part = (new, is, keeps, whole a can)
-by_put lines old new bus a taken (Err e) is keeps can whole part = (new, is, keeps, part a can)
-
-pub started_reports : (lines : List Line) (old new : BankState) (bus : BusState) (a : ArrayState) (taken : Taken) (ran : Result Ran SinkError) (result : Result Ran RunError)
-    → new.bus ≡ bus → KeepsBank old new → CanRun old a → result ≡ of_put ran
-    → IfOk ran (λ r. (x : ArrayState) → CanRun old x → ReportsWhole lines old new x taken.before taken.after r)
-    → IfErr ran (λ e. (x : ArrayState) → CanRun old x → ReportsPart lines old new x taken.before taken.after)
-    → ReportsStarted lines old bus a taken result
-started_reports lines old new bus a taken ran result is keeps can put whole part =
-    subst (λ (r : Result Ran RunError). ReportsStarted lines old bus a taken r) (sym put) (by_put lines old new bus a taken ran is keeps can whole part)
-
 -- ---- the file of the bank
 
-pub image_reports : (width w : ℕ) (lines : List Line) (old new : BusState) (taken : Taken) (ran : Ran) (result : Result Ran RunError) (file : List ℕ)
+pub image_reports : (race : Bool) (width w : ℕ) (lines : List Line) (old new : BusState) (taken : Taken) (ran : Ran) (result : Result Ran RunError) (file : List ℕ)
     → w ≡ width → (device : Device) → IsBank width device old.lanes → AreStorable old.lanes → KeepsLanes old new → result ≡ Ok ran
-    → Reports width lines old new taken result → file ≡ file_of w new.lanes → Stores file w new.lanes
-    → RunsImage width lines old taken.before taken.after ran file
-image_reports width w lines old new taken ran result file same device bank storable keeps is told spelled stores =
+    → Reports race width lines old new taken result → file ≡ file_of w new.lanes → Stores file w new.lanes
+    → RunsImage race width lines old taken.before taken.after ran file
+image_reports race width w lines old new taken ran result file same device bank storable keeps is told spelled stores =
     record {
       new = new;
-      runs = subst (λ (r : Result Ran RunError). Reports width lines old new taken r) is told;
+      runs = subst (λ (r : Result Ran RunError). Reports race width lines old new taken r) is told;
       spelled = spelled ∙ ap (λ (n : ℕ). file_of n new.lanes) same;
       image = subst (λ (n : ℕ). IsImageOf file n (map powered new.lanes)) same (stores (still_storable old new (some_lane width device old.lanes bank) keeps storable));
     }

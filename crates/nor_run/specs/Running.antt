@@ -1,10 +1,9 @@
 -- What running the lines of a script makes of a bank.
-use Rattle.std.specs.Prelude.{◌≡◌, ℕ, List, length, take, map, Bool, true, false, Option, None, Result, Ok, Err}
+use Rattle.std.specs.Prelude.{◌≡◌, ℕ, List, length, take, map, Bool, true, false, Option, Result, Ok, Err}
 use Rattle.std.specs.List.{list_any}
 use Rattle.nor_cell.specs.Chip.{ChipState}
-use Rattle.nor_bus.specs.Cycles.{KeepsLanes}
 use Rattle.nor_bus.specs.Driven.{EachLane}
-use Rattle.nor_array.specs.Array.{ArrayState, is_locked}
+use Rattle.nor_array.specs.Array.{ArrayState}
 use Rattle.nor_array.specs.After.{after_all}
 use Rattle.nor_array.specs.Legal.{Legal}
 use Rattle.nor_array.specs.declared.entry.Entry.{Entry}
@@ -14,7 +13,8 @@ use Rattle.nor_array.specs.declared.entry.Reply.TheVariants.{Halted}
 use Rattle.nor_io.specs.Files.{Rose, Appends, AppendsPart}
 use Rattle.nor_io.specs.declared.sink.SinkError.{SinkError}
 use Rattle.nor_io.specs.declared.sink.SinkError.TheVariants.{Fault, NoMemory}
-use Rattle.nor_script.specs.Answering.{IsOf, AnswersRun}
+use Rattle.nor_array.specs.Entries.{IsOf}
+use Rattle.nor_script.specs.Answering.{Answers}
 use Rattle.nor_script.specs.Puts.{Taken}
 use Rattle.nor_script.specs.Report.{entry_line, entry_lines, report_text}
 use Rattle.nor_script.specs.declared.line.Line.{Line}
@@ -24,25 +24,11 @@ use Rattle.nor_bank.specs.Calls.{MakesEntry, facts_of}
 use Rattle.nor_bank.specs.Programs.{Lasts}
 use Rattle.nor_bank.specs.Stands.{Stands}
 use Rattle.nor_bank.specs.State.{BankState}
-use Rattle.nor_bank.specs.Work.{IsBuilt}
+use Rattle.nor_run.specs.declared.error.RunError.{RunError}
+use Rattle.nor_run.specs.declared.error.RunError.TheVariants.{Probe, NotBuilt, NoMemory as Memory, Put}
 use Rattle.nor_run.specs.declared.lines.Ran.{Ran}
 
--- ---- before
-
--- The bank stands for an array of which no block is locked. Nothing is under erase, and programs are built for it.
-pub record CanRun (b : BankState) (a : ArrayState) : Type 0 where
-  pub stands : Stands b a
-  pub closed : b.erase ≡ None
-  pub built : IsBuilt b
-  pub unlocked : (n : ℕ) → is_locked a n ≡ false
-
 -- ---- one line
-
--- A call changes the bus, of which each chip stays what it is, and the halt that is kept.
-pub record KeepsBank (old new : BankState) : Type 0 where
-  pub found : new.found ≡ old.found
-  pub erase : old.erase ≡ None → new.erase ≡ None
-  pub lanes : KeepsLanes old.bus new.bus
 
 -- A text that tells a reply was put; or the sink failed, which its count tells, or lacked memory, and then a first part was.
 abbrev pub PutsReply : List ℕ → Reply → Taken → Result Reply SinkError → Type 0
@@ -76,27 +62,56 @@ is_halt _ = false
 abbrev pub has_halt : List Entry → Bool
 has_halt es = list_any (λ e. is_halt e.reply) es
 
--- The history is legal, answers the lines, and led the bank from old to new: all of each chip is as it was but its bytes.
-pub record IsHistoryOf (lines : List Line) (old new : BankState) (a : ArrayState) (es : List Entry) : Type 0 where
+-- The history is legal, answers the lines, run by one thread or raced, and led the bank from old to new: all of each chip is as
+-- it was but its bytes.
+pub record IsHistoryOf (race : Bool) (lines : List Line) (old new : BankState) (a : ArrayState) (es : List Entry) : Type 0 where
   pub legal : Legal (facts_of old) a es
-  pub answers : AnswersRun lines es
+  pub answers : Answers race lines es
   pub stands : Stands new (after_all a es)
   pub lasts : EachLane Lasts old.bus new.bus
 
 -- All lines were run, and the history put.
-pub record RunsWhole (lines : List Line) (old new : BankState) (a : ArrayState) (before after : Option (List ℕ)) (ran : Ran) : Type 0 where
+pub record RunsWhole (race : Bool) (lines : List Line) (old new : BankState) (a : ArrayState) (before after : Option (List ℕ)) (ran : Ran) : Type 0 where
   pub history : List Entry
-  pub is : IsHistoryOf lines old new a history
+  pub is : IsHistoryOf race lines old new a history
   pub text : Appends before (entry_lines 0 history) after
   pub entries : ran.entries ≡ length history
   pub halted : ran.halted ≡ has_halt history
 
+-- how many lines were run of those of which not all was put: a race runs all before it puts any
+abbrev pub IsCount : (race : Bool) → List Line → ℕ → Type 0
+IsCount false lines count = Unit {0}
+IsCount true lines count = count ≡ length lines
+
 -- The first lines were run, up to one whose entry wasn't put whole.
-pub record RunsPart (lines : List Line) (old new : BankState) (a : ArrayState) (before after : Option (List ℕ)) : Type 0 where
+pub record RunsPart (race : Bool) (lines : List Line) (old new : BankState) (a : ArrayState) (before after : Option (List ℕ)) : Type 0 where
   pub history : List Entry
   pub count : ℕ
-  pub is : IsHistoryOf (take count lines) old new a history
+  pub all : IsCount race lines count
+  pub is : IsHistoryOf race (take count lines) old new a history
   pub text : AppendsPart before (entry_lines 0 history) after
+
+-- What was run, and put: all, or a part.
+abbrev pub RunsLines : (race : Bool) → List Line → (old new : BankState) → ArrayState → Taken → Result Ran RunError → Type 0
+RunsLines race lines old new a taken (Ok ran) = RunsWhole race lines old new a taken.before taken.after ran
+RunsLines race lines old new a taken (Err (Probe error)) = ⊥
+RunsLines race lines old new a taken (Err NotBuilt) = ⊥
+RunsLines race lines old new a taken (Err Memory) = Unit {0}
+RunsLines race lines old new a taken (Err (Put error)) = RunsPart race lines old new a taken.before taken.after
+
+-- nothing was put
+pub record Untouched (taken : Taken) : Type 0 where
+  pub text : taken.after ≡ taken.before
+  pub faults : taken.faults_after ≡ taken.faults_before
+
+-- Why not all was put: a race may want memory, and then nothing was; or it comes from the sink.
+abbrev pub EndsLines : (race : Bool) → Taken → Result Ran RunError → Type 0
+EndsLines race taken (Ok ran) = Unit {0}
+EndsLines race taken (Err (Probe error)) = ⊥
+EndsLines race taken (Err NotBuilt) = ⊥
+EndsLines race taken (Err Memory) = (race ≡ true) × Untouched taken
+EndsLines race taken (Err (Put Fault)) = Rose taken.faults_before taken.faults_after
+EndsLines race taken (Err (Put NoMemory)) = Unit {0}
 
 -- ---- with the chips' counters at the end
 
@@ -105,16 +120,25 @@ abbrev pub counters_of : List ChipState → List (ℕ × ℕ)
 counters_of chips = map (λ (s : ChipState). (s.suspends, s.erases)) chips
 
 -- All lines were run, and the report put.
-pub record ReportsWhole (lines : List Line) (old new : BankState) (a : ArrayState) (before after : Option (List ℕ)) (ran : Ran) : Type 0 where
+pub record ReportsWhole (race : Bool) (lines : List Line) (old new : BankState) (a : ArrayState) (before after : Option (List ℕ)) (ran : Ran) : Type 0 where
   pub history : List Entry
-  pub is : IsHistoryOf lines old new a history
+  pub is : IsHistoryOf race lines old new a history
   pub text : Appends before (report_text history (counters_of new.bus.lanes)) after
   pub entries : ran.entries ≡ length history
   pub halted : ran.halted ≡ has_halt history
 
 -- The first lines were run, and the report of their history wasn't put whole.
-pub record ReportsPart (lines : List Line) (old new : BankState) (a : ArrayState) (before after : Option (List ℕ)) : Type 0 where
+pub record ReportsPart (race : Bool) (lines : List Line) (old new : BankState) (a : ArrayState) (before after : Option (List ℕ)) : Type 0 where
   pub history : List Entry
   pub count : ℕ
-  pub is : IsHistoryOf (take count lines) old new a history
+  pub all : IsCount race lines count
+  pub is : IsHistoryOf race (take count lines) old new a history
   pub text : AppendsPart before (report_text history (counters_of new.bus.lanes)) after
+
+-- What was put of the report.
+abbrev pub ReportsLines : (race : Bool) → List Line → (old new : BankState) → ArrayState → Taken → Result Ran RunError → Type 0
+ReportsLines race lines old new a taken (Ok ran) = ReportsWhole race lines old new a taken.before taken.after ran
+ReportsLines race lines old new a taken (Err (Probe error)) = ⊥
+ReportsLines race lines old new a taken (Err NotBuilt) = ⊥
+ReportsLines race lines old new a taken (Err Memory) = Unit {0}
+ReportsLines race lines old new a taken (Err (Put error)) = ReportsPart race lines old new a taken.before taken.after

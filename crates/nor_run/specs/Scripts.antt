@@ -14,7 +14,7 @@ use Rattle.nor_array.specs.Array.{ArrayState, opening}
 use Rattle.nor_array.specs.After.{after_all}
 use Rattle.nor_array.specs.Legal.{Legal}
 use Rattle.nor_array.specs.declared.entry.Entry.{Entry}
-use Rattle.nor_script.specs.Answering.{AnswersRun}
+use Rattle.nor_script.specs.Answering.{Answers}
 use Rattle.nor_script.specs.Report.{report_text}
 use Rattle.nor_script.specs.declared.line.Line.{Line}
 use Rattle.nor_io.specs.Files.{Rose, Appends, AppendsPart}
@@ -29,9 +29,9 @@ use Rattle.nor_image.specs.Loaded.{bus_of, loaded_width, IsFreshBus}
 use Rattle.nor_image.specs.Written.{file_of, AreStorable}
 use Rattle.nor_image.specs.declared.loaded.Loaded.{Loaded}
 use Rattle.nor_run.specs.declared.error.RunError.{RunError}
-use Rattle.nor_run.specs.declared.error.RunError.TheVariants.{Probe, NotBuilt, Put}
+use Rattle.nor_run.specs.declared.error.RunError.TheVariants.{Probe, NotBuilt, NoMemory as Memory, Put}
 use Rattle.nor_run.specs.Built.{is_built_bank}
-use Rattle.nor_run.specs.Running.{has_halt, counters_of}
+use Rattle.nor_run.specs.Running.{has_halt, counters_of, IsCount, Untouched}
 use Rattle.nor_run.specs.declared.lines.Ran.{Ran}
 
 -- a bank of which this was found, before its first call
@@ -49,29 +49,30 @@ pub record HoldsBytes (found : Found) (bus : BusState) (a : ArrayState) : Type 0
 
 -- A history that is legal from the opening array and answers the lines led the bus from old to new. Of each chip all is as it
 -- was but the cells, which are the array's bytes after the history.
-pub record RunsLegally (width : ℕ) (lines : List Line) (old new : BusState) (found : Found) (es : List Entry) : Type 0 where
+pub record RunsLegally (race : Bool) (width : ℕ) (lines : List Line) (old new : BusState) (found : Found) (es : List Entry) : Type 0 where
   pub is_found : IsFoundOn width old.lanes found
   pub legal : Legal (facts_of (started found old)) (opening_of found old) es
-  pub answers : AnswersRun lines es
+  pub answers : Answers race lines es
   pub count : lanes_of new ≡ lanes_of old
   pub lasts : EachLane Lasts old new
   pub holds : HoldsBytes found new (after_all (opening_of found old) es)
 
 -- All lines were run so, and the report of the history was put.
-pub record RunsScript (width : ℕ) (lines : List Line) (old new : BusState) (before after : Option (List ℕ)) (ran : Ran) : Type 0 where
+pub record RunsScript (race : Bool) (width : ℕ) (lines : List Line) (old new : BusState) (before after : Option (List ℕ)) (ran : Ran) : Type 0 where
   pub found : Found
   pub history : List Entry
-  pub runs : RunsLegally width lines old new found history
+  pub runs : RunsLegally race width lines old new found history
   pub text : Appends before (report_text history (counters_of new.lanes)) after
   pub entries : ran.entries ≡ length history
   pub halted : ran.halted ≡ has_halt history
 
 -- A first part of the report of such a history was put, whose lines are the first of the script.
-pub record RunsPartly (width : ℕ) (lines : List Line) (old new : BusState) (before after : Option (List ℕ)) : Type 0 where
+pub record RunsPartly (race : Bool) (width : ℕ) (lines : List Line) (old new : BusState) (before after : Option (List ℕ)) : Type 0 where
   pub found : Found
   pub history : List Entry
   pub count : ℕ
-  pub runs : RunsLegally width (take count lines) old new found history
+  pub all : IsCount race lines count
+  pub runs : RunsLegally race width (take count lines) old new found history
   pub text : AppendsPart before (report_text history (counters_of new.lanes)) after
 
 -- ---- how it ends
@@ -82,25 +83,22 @@ pub record HasLocks (width : ℕ) (chips : List ChipState) (offers : Bool) : Typ
   pub is_found : IsFoundOn width chips found
   pub locks : locks_of found.query.extended ≡ offers
 
--- nothing was put
-pub record Untouched (taken : Taken) : Type 0 where
-  pub text : taken.after ≡ taken.before
-  pub faults : taken.faults_after ≡ taken.faults_before
-
 -- Why a bank of these chips is run, or not: running isn't built for its chips, probing refuses it, or its table offers locks.
-abbrev pub EndsRun : ℕ → List ChipState → Taken → Result Ran RunError → Type 0
-EndsRun width chips taken (Ok ran) = (is_built_bank chips ≡ true) × HasLocks width chips false
-EndsRun width chips taken (Err (Probe error)) = (is_built_bank chips ≡ true) × (refusal width chips ≡ Some error) × (error ≢ LostPower) × Untouched taken
-EndsRun width chips taken (Err NotBuilt) = ((is_built_bank chips ≡ false) ⊎ ((is_built_bank chips ≡ true) × HasLocks width chips true)) × Untouched taken
-EndsRun width chips taken (Err (Put Fault)) = (is_built_bank chips ≡ true) × HasLocks width chips false × Rose taken.faults_before taken.faults_after
-EndsRun width chips taken (Err (Put NoMemory)) = (is_built_bank chips ≡ true) × HasLocks width chips false
+abbrev pub EndsRun : (race : Bool) → ℕ → List ChipState → Taken → Result Ran RunError → Type 0
+EndsRun race width chips taken (Ok ran) = (is_built_bank chips ≡ true) × HasLocks width chips false
+EndsRun race width chips taken (Err (Probe error)) = (is_built_bank chips ≡ true) × (refusal width chips ≡ Some error) × (error ≢ LostPower) × Untouched taken
+EndsRun race width chips taken (Err NotBuilt) = ((is_built_bank chips ≡ false) ⊎ ((is_built_bank chips ≡ true) × HasLocks width chips true)) × Untouched taken
+EndsRun race width chips taken (Err Memory) = (is_built_bank chips ≡ true) × HasLocks width chips false × (race ≡ true) × Untouched taken
+EndsRun race width chips taken (Err (Put Fault)) = (is_built_bank chips ≡ true) × HasLocks width chips false × Rose taken.faults_before taken.faults_after
+EndsRun race width chips taken (Err (Put NoMemory)) = (is_built_bank chips ≡ true) × HasLocks width chips false
 
 -- What was put of a run, whole or in part.
-abbrev pub Reports : ℕ → List Line → (old new : BusState) → Taken → Result Ran RunError → Type 0
-Reports width lines old new taken (Ok ran) = RunsScript width lines old new taken.before taken.after ran
-Reports width lines old new taken (Err (Probe error)) = Unit {0}
-Reports width lines old new taken (Err NotBuilt) = Unit {0}
-Reports width lines old new taken (Err (Put error)) = RunsPartly width lines old new taken.before taken.after
+abbrev pub Reports : (race : Bool) → ℕ → List Line → (old new : BusState) → Taken → Result Ran RunError → Type 0
+Reports race width lines old new taken (Ok ran) = RunsScript race width lines old new taken.before taken.after ran
+Reports race width lines old new taken (Err (Probe error)) = Unit {0}
+Reports race width lines old new taken (Err NotBuilt) = Unit {0}
+Reports race width lines old new taken (Err Memory) = Unit {0}
+Reports race width lines old new taken (Err (Put error)) = RunsPartly race width lines old new taken.before taken.after
 
 -- ---- a bank that was just loaded
 
@@ -128,15 +126,16 @@ pub record IsLoaded (file : List ℕ) (loaded : Loaded) : Type 0 where
   pub spelled : file ≡ file_of (loaded_width loaded) (bus_of loaded).lanes
 
 -- A script was run on the bank of a file, and this is now the file of that bank.
-pub record RunsImage (width : ℕ) (lines : List Line) (old : BusState) (before after : Option (List ℕ)) (ran : Ran) (file : List ℕ) : Type 0 where
+pub record RunsImage (race : Bool) (width : ℕ) (lines : List Line) (old : BusState) (before after : Option (List ℕ)) (ran : Ran) (file : List ℕ) : Type 0 where
   pub new : BusState
-  pub runs : RunsScript width lines old new before after ran
+  pub runs : RunsScript race width lines old new before after ran
   pub spelled : file ≡ file_of width new.lanes
   pub image : IsImageOf file width (map powered new.lanes)
 
 -- the same, or a part of it
-abbrev pub ReportsImage : ℕ → List Line → BusState → Taken → List ℕ → Result Ran RunError → Type 0
-ReportsImage width lines old taken file (Ok ran) = RunsImage width lines old taken.before taken.after ran file
-ReportsImage width lines old taken file (Err (Probe error)) = Unit {0}
-ReportsImage width lines old taken file (Err NotBuilt) = Unit {0}
-ReportsImage width lines old taken file (Err (Put error)) = (new : BusState) × RunsPartly width lines old new taken.before taken.after
+abbrev pub ReportsImage : (race : Bool) → ℕ → List Line → BusState → Taken → List ℕ → Result Ran RunError → Type 0
+ReportsImage race width lines old taken file (Ok ran) = RunsImage race width lines old taken.before taken.after ran file
+ReportsImage race width lines old taken file (Err (Probe error)) = Unit {0}
+ReportsImage race width lines old taken file (Err NotBuilt) = Unit {0}
+ReportsImage race width lines old taken file (Err Memory) = Unit {0}
+ReportsImage race width lines old taken file (Err (Put error)) = (new : BusState) × RunsPartly race width lines old new taken.before taken.after

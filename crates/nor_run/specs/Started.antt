@@ -1,34 +1,46 @@
--- Running on a bank that was started.
-use Rattle.std.specs.Prelude.{◌≡◌, List, Bool, true, false, Result, Ok, Err}
+-- A bank that was started for a script.
+use Rattle.std.specs.Prelude.{◌≡◌, ◌≢◌, ◌⊎◌, ℕ, List, true, false, Some, None, Result, Ok, Err}
+use Rattle.nor_cell.specs.Chip.{ChipState}
 use Rattle.nor_bus.specs.Bus.{BusState}
-use Rattle.nor_array.specs.Array.{ArrayState}
-use Rattle.nor_io.specs.Files.{Rose}
+use Rattle.nor_bus.specs.Cycles.{KeepsLanes}
+use Rattle.nor_bus.specs.Driven.{AllLanes}
 use Rattle.nor_io.specs.declared.sink.SinkError.{SinkError}
-use Rattle.nor_io.specs.declared.sink.SinkError.TheVariants.{Fault, NoMemory}
-use Rattle.nor_script.specs.Puts.{Taken}
-use Rattle.nor_script.specs.declared.line.Line.{Line}
+use Rattle.nor_probe.specs.Probed.{refusal, IsFoundOn}
+use Rattle.nor_probe.specs.declared.error.ProbeError.TheVariants.{Off as LostPower}
+use Rattle.nor_query.specs.Derived.{locks_of}
+use Rattle.nor_bank.specs.Stands.{Stands, array_of}
 use Rattle.nor_bank.specs.State.{BankState}
-use Rattle.nor_run.specs.Running.{KeepsBank, ReportsWhole, ReportsPart}
-use Rattle.nor_run.specs.Scripts.{Untouched}
+use Rattle.nor_run.specs.Built.{is_built_bank}
+use Rattle.nor_run.specs.Scripts.{HasLocks, ShowsQry}
 use Rattle.nor_run.specs.declared.error.RunError.{RunError}
-use Rattle.nor_run.specs.declared.error.RunError.TheVariants.{Probe, NotBuilt, Put}
+use Rattle.nor_run.specs.declared.error.RunError.TheVariants.{Probe, NotBuilt, NoMemory as Memory, Put}
 use Rattle.nor_run.specs.declared.lines.Ran.{Ran}
 
 abbrev pub of_put : Result Ran SinkError → Result Ran RunError
 of_put (Ok ran) = Ok ran
 of_put (Err error) = Err (Put error)
 
--- A bank that offers locks isn't run.
-abbrev pub EndsStarted : Bool → Taken → Result Ran RunError → Type 0
-EndsStarted offers taken (Ok ran) = offers ≡ false
-EndsStarted offers taken (Err (Probe error)) = ⊥
-EndsStarted offers taken (Err NotBuilt) = (offers ≡ true) × Untouched taken
-EndsStarted offers taken (Err (Put Fault)) = (offers ≡ false) × Rose taken.faults_before taken.faults_after
-EndsStarted offers taken (Err (Put NoMemory)) = offers ≡ false
+-- A bank was started on a bus whose chips showed their arrays, and stands for the array that opens with their bytes.
+pub record IsStarted (width : ℕ) (bus : BusState) (b : BankState) : Type 0 where
+  pub is_found : IsFoundOn width bus.lanes b.found
+  pub lanes : b.bus.lanes ≡ bus.lanes
+  pub halted : b.halted ≡ None
+  pub erase : b.erase ≡ None
+  pub unarmed : b.bus.armed ≡ None
+  pub stands : Stands b (array_of b)
 
--- What was put, with the bank afterwards, whose bus this is.
-abbrev pub ReportsStarted : List Line → BankState → BusState → ArrayState → Taken → Result Ran RunError → Type 0
-ReportsStarted lines old bus a taken (Ok ran) = (new : BankState) × (new.bus ≡ bus) × KeepsBank old new × ReportsWhole lines old new a taken.before taken.after ran
-ReportsStarted lines old bus a taken (Err (Probe error)) = Unit {0}
-ReportsStarted lines old bus a taken (Err NotBuilt) = Unit {0}
-ReportsStarted lines old bus a taken (Err (Put error)) = (new : BankState) × (new.bus ≡ bus) × KeepsBank old new × ReportsPart lines old new a taken.before taken.after
+-- Running is built for the bank, and it was started.
+pub record Starts (width : ℕ) (bus : BusState) (b : BankState) : Type 0 where
+  pub built : is_built_bank bus.lanes ≡ true
+  pub is_found : IsFoundOn width bus.lanes b.found
+  pub locks : locks_of b.found.query.extended ≡ false
+  pub closed : b.erase ≡ None
+  pub kept : KeepsLanes bus b.bus
+  pub started : AllLanes ShowsQry bus → IsStarted width bus b
+
+-- Why it wasn't.
+abbrev pub Refuses : ℕ → List ChipState → RunError → Type 0
+Refuses width chips (Probe error) = (is_built_bank chips ≡ true) × (refusal width chips ≡ Some error) × (error ≢ LostPower)
+Refuses width chips NotBuilt = (is_built_bank chips ≡ false) ⊎ ((is_built_bank chips ≡ true) × HasLocks width chips true)
+Refuses width chips Memory = ⊥
+Refuses width chips (Put error) = ⊥

@@ -1,14 +1,13 @@
 //! A script on one bank of simulated chips.
-ghost use Rattle.std.specs.Prelude.{◌≡◌, ◌≤◌, ℕ, true, false, IfOk, IfErr, Err};
+ghost use Rattle.std.specs.Prelude.{◌≡◌, ◌≤◌, ℕ, List, Bool, Option, true, false, IfOk, IfErr};
 ghost use Rattle.nor_bus.specs.Cycles.{KeepsLanes};
 ghost use Rattle.nor_bus.specs.Driven.{AllLanes};
 ghost use Rattle.nor_array.specs.Array.{ArrayState};
-ghost use Rattle.nor_io.specs.Files.{Rose};
-ghost use Rattle.nor_io.specs.declared.sink.SinkError.TheVariants.{Fault};
-ghost use Rattle.nor_query.specs.Derived.{locks_of};
+ghost use Rattle.nor_bank.specs.State.{BankState};
+ghost use Rattle.nor_script.specs.declared.line.Line.{Line as LineOf};
 ghost use Rattle.nor_run.specs.Built.{are_built};
-ghost use Rattle.nor_run.specs.Running.{CanRun, KeepsBank, ReportsWhole, ReportsPart};
-ghost use Rattle.nor_run.specs.Started.{of_put, EndsStarted, ReportsStarted};
+ghost use Rattle.nor_run.specs.Running.{RunsLines, EndsLines, ReportsLines};
+ghost use Rattle.nor_run.specs.Started.{of_put, Starts, Refuses};
 ghost use Rattle.nor_run.specs.Scripts.{IsJustLoaded, ShowsQry, EndsRun, Reports};
 
 use crate::built::is_built_for;
@@ -22,27 +21,8 @@ use nor_io::{Sink, SinkError};
 use nor_script::Line;
 use nor_word::BusWord;
 
-// Runs the lines and puts the report.
-fn report<W: BusWord, C: Chip + Drop, K: Sink>(
-    bank: &mut Bank<W, SimBank<W, C>>,
-    lines: &[Line],
-    out: &mut K,
-) -> Result<Ran, SinkError>
-    requires { are_built lines.now ≡ true }
-    ensures ran { IfOk result (λ ran. (a : ArrayState) → CanRun bank.old a
-        → ReportsWhole lines.now bank.old bank.new a (K.taken out.old) (K.taken out.new) ran) }
-    ensures stopped { IfErr result (λ _. (a : ArrayState) → CanRun bank.old a
-        → ReportsPart lines.now bank.old bank.new a (K.taken out.old) (K.taken out.new)) }
-    ensures keeps { KeepsBank bank.old bank.new }
-    ensures fault { result ≡ Err Fault → Rose (K.faults out.old) (K.faults out.new) }
-    ensures later { K.faults out.old ≤ K.faults out.new }
-{
-    let ran = run_lines(bank, lines, out)?;
-    put_counters(bank.bus(), ran.entries, out)?;
-    Ok(ran)
-}
-
-fn of_put(ran: Result<Ran, SinkError>) -> Result<Ran, RunError>
+/// What the sink answered, as an error of a run.
+pub fn of_put(ran: Result<Ran, SinkError>) -> Result<Ran, RunError>
     ensures { result ≡ of_put ran }
 {
     match ran {
@@ -51,25 +31,54 @@ fn of_put(ran: Result<Ran, SinkError>) -> Result<Ran, RunError>
     }
 }
 
-// The same on a bank that was just started, which is then given up.
-fn run_started<W: BusWord, C: Chip + Drop, K: Sink>(
-    bank: Bank<W, SimBank<W, C>>,
-    lines: &[Line],
+/// Starts a bank that was just loaded, where running is built for it.
+///
+/// # Errors
+/// With the bank: `NotBuilt` where a chip has a weak place or is stuck, or where probing accepts the bank
+/// and its table offers locks; `Probe` where probing refuses a bank whose chips are sound.
+pub fn start_bank<W: BusWord, C: Chip + Drop>(
+    bank: SimBank<W, C>,
+) -> Result<Bank<W, SimBank<W, C>>, (SimBank<W, C>, RunError)>
+    requires loaded { IsJustLoaded W.WIDTH bank }
+    ensures started { IfOk result (Starts W.WIDTH bank) }
+    ensures refused { IfErr result (λ back. Refuses W.WIDTH bank.lanes back.1) }
+    ensures back { IfErr result (λ back. KeepsLanes bank back.0) }
+{
+    if !is_built_for(&bank) {
+        return Err((bank, RunError::NotBuilt));
+    }
+    match Bank::start(bank) {
+        Ok(bank) => {
+            if bank.found().query.has_locks() {
+                return Err((bank.stop(), RunError::NotBuilt));
+            }
+            Ok(bank)
+        }
+        Err((bank, error)) => Err((bank, RunError::Probe(error))),
+    }
+}
+
+/// Puts the end of a report, where all lines were run and put.
+pub fn put_end<W: BusWord, C: Chip + Drop, K: Sink>(
+    bank: &SimBank<W, C>,
+    ran: Result<Ran, RunError>,
     out: &mut K,
-) -> (SimBank<W, C>, Result<Ran, RunError>)
-    requires { are_built lines.now ≡ true }
-    ensures ends { EndsStarted (locks_of bank.found.query.extended) (record { before = K.taken out.old; after = K.taken out.new; faults_before = K.faults out.old; faults_after = K.faults out.new }) result.1 }
-    ensures reports { (a : ArrayState) → (locks_of bank.found.query.extended ≡ false → CanRun bank a)
-        → ReportsStarted lines.now bank result.0 a (record { before = K.taken out.old; after = K.taken out.new; faults_before = K.faults out.old; faults_after = K.faults out.new }) result.1 }
-    ensures lanes { KeepsLanes bank.bus result.0 }
+) -> Result<Ran, RunError>
+    ensures reports { (race : Bool) (lines : List LineOf) (old new : BankState) (a : ArrayState) (before : Option (List ℕ)) (faults : ℕ) → new.bus ≡ bank.now
+        → RunsLines race lines old new a (record { before = before; after = K.taken out.old; faults_before = faults; faults_after = K.faults out.old }) ran
+        → ReportsLines race lines old new a (record { before = before; after = K.taken out.new; faults_before = faults; faults_after = K.faults out.new }) result }
+    ensures ends { (race : Bool) (before : Option (List ℕ)) (faults : ℕ) → faults ≤ K.faults out.old
+        → EndsLines race (record { before = before; after = K.taken out.old; faults_before = faults; faults_after = K.faults out.old }) ran
+        → EndsLines race (record { before = before; after = K.taken out.new; faults_before = faults; faults_after = K.faults out.new }) result }
     ensures later { K.faults out.old ≤ K.faults out.new }
 {
-    if bank.found().query.has_locks() {
-        return (bank.stop(), Err(RunError::NotBuilt));
+    match ran {
+        Ok(ran) => match put_counters(bank, ran.entries, out) {
+            Ok(()) => Ok(ran),
+            Err(error) => Err(RunError::Put(error)),
+        },
+        Err(error) => Err(error),
     }
-    let mut bank = bank;
-    let ran = report(&mut bank, lines, out);
-    (bank.stop(), of_put(ran))
 }
 
 /// Runs a script on a bank that was just loaded, and gives the bank back.
@@ -80,17 +89,19 @@ pub fn run_bank<W: BusWord, C: Chip + Drop, K: Sink>(
 ) -> (SimBank<W, C>, Result<Ran, RunError>)
     requires built { are_built lines.now ≡ true }
     requires loaded { IsJustLoaded W.WIDTH bank }
-    ensures ends { EndsRun W.WIDTH bank.lanes (record { before = K.taken out.old; after = K.taken out.new; faults_before = K.faults out.old; faults_after = K.faults out.new }) result.1 }
+    ensures ends { EndsRun false W.WIDTH bank.lanes (record { before = K.taken out.old; after = K.taken out.new; faults_before = K.faults out.old; faults_after = K.faults out.new }) result.1 }
     ensures reports { AllLanes ShowsQry bank
-        → Reports W.WIDTH lines.now bank result.0 (record { before = K.taken out.old; after = K.taken out.new; faults_before = K.faults out.old; faults_after = K.faults out.new }) result.1 }
+        → Reports false W.WIDTH lines.now bank result.0 (record { before = K.taken out.old; after = K.taken out.new; faults_before = K.faults out.old; faults_after = K.faults out.new }) result.1 }
     ensures lanes { KeepsLanes bank result.0 }
     ensures later { K.faults out.old ≤ K.faults out.new }
 {
-    if !is_built_for(&bank) {
-        return (bank, Err(RunError::NotBuilt));
-    }
-    match Bank::start(bank) {
-        Ok(bank) => run_started(bank, lines, out),
-        Err((bank, error)) => (bank, Err(RunError::Probe(error))),
+    match start_bank(bank) {
+        Ok(bank) => {
+            let mut bank = bank;
+            let ran = of_put(run_lines(&mut bank, lines, out));
+            let ran = put_end(bank.bus(), ran, out);
+            (bank.stop(), ran)
+        }
+        Err((bank, error)) => (bank, Err(error)),
     }
 }

@@ -8,6 +8,8 @@ pub enum RunError {
     Probe(ProbeError),
     /// Running isn't built for such a bank yet.
     NotBuilt,
+    /// A race wanted memory, before its first bus cycle.
+    NoMemory,
     /// The report wasn't put whole.
     Put(SinkError),
 }

@@ -1,5 +1,5 @@
 //! A script on the bank of a file.
-ghost use Rattle.std.specs.Prelude.{◌≡◌, ◌≤◌, true, IsErr};
+ghost use Rattle.std.specs.Prelude.{◌≡◌, ◌≤◌, true, false, IsErr};
 ghost use Rattle.nor_bus.specs.Cycles.{KeepsLanes};
 ghost use Rattle.nor_bus.specs.Driven.{AllLanes};
 ghost use Rattle.nor_image.specs.Loaded.{bus_of, loaded_width};
@@ -12,6 +12,47 @@ use nor_image::{Loaded, fill_image};
 use nor_io::Sink;
 use nor_script::Line;
 
+/// A call on a bank of whichever kind, which takes the bank and gives it back beside what it answers.
+#[macro_export]
+macro_rules! with_each_bank {
+    ($loaded:expr, $bank:ident => $call:expr) => {
+        match $loaded {
+            Loaded::Intel8($bank) => {
+                let (bank, ran) = $call;
+                (Loaded::Intel8(bank), ran)
+            }
+            Loaded::Intel16($bank) => {
+                let (bank, ran) = $call;
+                (Loaded::Intel16(bank), ran)
+            }
+            Loaded::Intel32($bank) => {
+                let (bank, ran) = $call;
+                (Loaded::Intel32(bank), ran)
+            }
+            Loaded::Intel64($bank) => {
+                let (bank, ran) = $call;
+                (Loaded::Intel64(bank), ran)
+            }
+            Loaded::Amd8($bank) => {
+                let (bank, ran) = $call;
+                (Loaded::Amd8(bank), ran)
+            }
+            Loaded::Amd16($bank) => {
+                let (bank, ran) = $call;
+                (Loaded::Amd16(bank), ran)
+            }
+            Loaded::Amd32($bank) => {
+                let (bank, ran) = $call;
+                (Loaded::Amd32(bank), ran)
+            }
+            Loaded::Amd64($bank) => {
+                let (bank, ran) = $call;
+                (Loaded::Amd64(bank), ran)
+            }
+        }
+    };
+}
+
 // Runs a script on a bank of whichever kind.
 fn run_loaded<K: Sink>(
     loaded: Loaded,
@@ -21,45 +62,12 @@ fn run_loaded<K: Sink>(
     requires built { are_built lines.now ≡ true }
     requires loaded { IsJustLoaded (loaded_width loaded) (bus_of loaded) }
     ensures width { loaded_width result.0 ≡ loaded_width loaded }
-    ensures ends { EndsRun (loaded_width loaded) (bus_of loaded).lanes (record { before = K.taken out.old; after = K.taken out.new; faults_before = K.faults out.old; faults_after = K.faults out.new }) result.1 }
-    ensures reports { AllLanes ShowsQry (bus_of loaded) → Reports (loaded_width loaded) lines.now (bus_of loaded) (bus_of result.0) (record { before = K.taken out.old; after = K.taken out.new; faults_before = K.faults out.old; faults_after = K.faults out.new }) result.1 }
+    ensures ends { EndsRun false (loaded_width loaded) (bus_of loaded).lanes (record { before = K.taken out.old; after = K.taken out.new; faults_before = K.faults out.old; faults_after = K.faults out.new }) result.1 }
+    ensures reports { AllLanes ShowsQry (bus_of loaded) → Reports false (loaded_width loaded) lines.now (bus_of loaded) (bus_of result.0) (record { before = K.taken out.old; after = K.taken out.new; faults_before = K.faults out.old; faults_after = K.faults out.new }) result.1 }
     ensures lanes { KeepsLanes (bus_of loaded) (bus_of result.0) }
     ensures later { K.faults out.old ≤ K.faults out.new }
 {
-    match loaded {
-        Loaded::Intel8(bank) => {
-            let (bank, ran) = run_bank(bank, lines, out);
-            (Loaded::Intel8(bank), ran)
-        }
-        Loaded::Intel16(bank) => {
-            let (bank, ran) = run_bank(bank, lines, out);
-            (Loaded::Intel16(bank), ran)
-        }
-        Loaded::Intel32(bank) => {
-            let (bank, ran) = run_bank(bank, lines, out);
-            (Loaded::Intel32(bank), ran)
-        }
-        Loaded::Intel64(bank) => {
-            let (bank, ran) = run_bank(bank, lines, out);
-            (Loaded::Intel64(bank), ran)
-        }
-        Loaded::Amd8(bank) => {
-            let (bank, ran) = run_bank(bank, lines, out);
-            (Loaded::Amd8(bank), ran)
-        }
-        Loaded::Amd16(bank) => {
-            let (bank, ran) = run_bank(bank, lines, out);
-            (Loaded::Amd16(bank), ran)
-        }
-        Loaded::Amd32(bank) => {
-            let (bank, ran) = run_bank(bank, lines, out);
-            (Loaded::Amd32(bank), ran)
-        }
-        Loaded::Amd64(bank) => {
-            let (bank, ran) = run_bank(bank, lines, out);
-            (Loaded::Amd64(bank), ran)
-        }
-    }
+    with_each_bank!(loaded, bank => run_bank(bank, lines, out))
 }
 
 /// Runs a script on the bank that was loaded from a file, and puts the report: the entry of each line
@@ -69,7 +77,7 @@ fn run_loaded<K: Sink>(
 /// Each line must be built. `NotBuilt` comes exactly where [`crate::is_built`] isn't true of the bank, or
 /// where probing accepts it and its table offers locks; `Probe` exactly where probing refuses a bank that
 /// running is built for. Both put nothing. `Put` comes only from the sink. After an error the file is as
-/// it was. It takes no memory.
+/// it was. It takes no memory, and never answers `NoMemory`.
 ///
 /// Where the chips' tables begin with `QRY`, the report is that of a legal history of the plain array
 /// that opens with the bank's bytes, the history answers the lines, and the file stands for a bank that
@@ -83,8 +91,8 @@ pub fn run_image<K: Sink>(
 ) -> Result<Ran, RunError>
     requires built { are_built lines.now ≡ true }
     requires loaded { IsLoaded file.old loaded }
-    ensures ends { EndsRun (loaded_width loaded) (bus_of loaded).lanes (record { before = K.taken out.old; after = K.taken out.new; faults_before = K.faults out.old; faults_after = K.faults out.new }) result }
-    ensures reports { AllLanes ShowsQry (bus_of loaded) → ReportsImage (loaded_width loaded) lines.now (bus_of loaded) (record { before = K.taken out.old; after = K.taken out.new; faults_before = K.faults out.old; faults_after = K.faults out.new }) file.new result }
+    ensures ends { EndsRun false (loaded_width loaded) (bus_of loaded).lanes (record { before = K.taken out.old; after = K.taken out.new; faults_before = K.faults out.old; faults_after = K.faults out.new }) result }
+    ensures reports { AllLanes ShowsQry (bus_of loaded) → ReportsImage false (loaded_width loaded) lines.now (bus_of loaded) (record { before = K.taken out.old; after = K.taken out.new; faults_before = K.faults out.old; faults_after = K.faults out.new }) file.new result }
     ensures same { IsErr result → file.new ≡ file.old }
     ensures later { K.faults out.old ≤ K.faults out.new }
 {

@@ -17,7 +17,8 @@ mod error;
 mod image;
 mod lines;
 
+pub use bank::{of_put, put_end, start_bank};
 pub use built::{are_built, is_built};
 pub use error::RunError;
 pub use image::run_image;
-pub use lines::{Ran, run_lines};
+pub use lines::{Ran, put_reply, ran_on, run_lines};

@@ -1,11 +1,12 @@
 //! Running the lines of a script.
-ghost use Rattle.std.specs.Prelude.{◌≡◌, ◌≤◌, ◌<◌, ◌+◌, ◌^◌, ◌||◌, ℕ, true, length, IfOk, IfErr, Err};
+ghost use Rattle.std.specs.Prelude.{◌≡◌, ◌≤◌, ◌<◌, ◌+◌, ◌^◌, ◌||◌, ℕ, true, false, length, IfOk, IfErr, Err};
 ghost use Rattle.nor_array.specs.Array.{ArrayState};
 ghost use Rattle.nor_io.specs.Files.{Rose};
 ghost use Rattle.nor_io.specs.declared.sink.SinkError.TheVariants.{Fault};
 ghost use Rattle.nor_script.specs.Report.{entry_line};
 ghost use Rattle.nor_run.specs.Built.{is_built_call, is_built_word, are_built};
-ghost use Rattle.nor_run.specs.Running.{CanRun, KeepsBank, PutsReply, RunsCall, RunsWord, RunsWhole, RunsPart, is_halt as halts};
+ghost use Rattle.nor_bank.specs.Work.{CanCall, KeepsBank};
+ghost use Rattle.nor_run.specs.Running.{PutsReply, RunsCall, RunsWord, RunsWhole, RunsPart, is_halt as halts};
 
 use nor_array::{Op, Reply};
 use nor_bank::{Bank, MAX_LEN};
@@ -21,8 +22,8 @@ pub struct Ran {
     pub halted: bool,
 }
 
-// Puts an entry, and gives its reply.
-fn put_reply<K: Sink>(
+/// Puts an entry, and gives its reply.
+pub fn put_reply<K: Sink>(
     out: &mut K,
     position: u64,
     caller: u8,
@@ -48,7 +49,7 @@ fn read_into<W: BusWord, B: Bus<W>, K: Sink>(
     out: &mut K,
 ) -> Result<Reply, SinkError>
     requires { length into.old ≡ len }
-    ensures runs { (a : ArrayState) → CanRun bank.old a
+    ensures runs { (a : ArrayState) → CanCall bank.old a
         → RunsCall caller (Op.Read at len) position bank.old bank.new a (record { before = K.taken out.old; after = K.taken out.new; faults_before = K.faults out.old; faults_after = K.faults out.new }) result }
     ensures keeps { KeepsBank bank.old bank.new }
     ensures fault { result ≡ Err Fault → Rose (K.faults out.old) (K.faults out.new) }
@@ -68,7 +69,7 @@ fn run_read<W: BusWord, B: Bus<W>, K: Sink>(
     position: u64,
     out: &mut K,
 ) -> Result<Reply, SinkError>
-    ensures runs { (a : ArrayState) → CanRun bank.old a
+    ensures runs { (a : ArrayState) → CanCall bank.old a
         → RunsCall caller (Op.Read at len) position bank.old bank.new a (record { before = K.taken out.old; after = K.taken out.new; faults_before = K.faults out.old; faults_after = K.faults out.new }) result }
     ensures keeps { KeepsBank bank.old bank.new }
     ensures fault { result ≡ Err Fault → Rose (K.faults out.old) (K.faults out.new) }
@@ -99,7 +100,7 @@ fn run_call<W: BusWord, B: Bus<W>, K: Sink>(
     out: &mut K,
 ) -> Result<Reply, SinkError>
     requires { is_built_call op.now ≡ true }
-    ensures runs { (a : ArrayState) → CanRun bank.old a
+    ensures runs { (a : ArrayState) → CanCall bank.old a
         → RunsCall caller op.now position bank.old bank.new a (record { before = K.taken out.old; after = K.taken out.new; faults_before = K.faults out.old; faults_after = K.faults out.new }) result }
     ensures keeps { KeepsBank bank.old bank.new }
     ensures fault { result ≡ Err Fault → Rose (K.faults out.old) (K.faults out.new) }
@@ -124,9 +125,9 @@ fn is_halt(reply: Reply) -> bool
     }
 }
 
-// One entry more.
-fn ran_on(ran: Ran, reply: Reply) -> Ran
-    requires { ran.entries < 2 ^ 63 }
+/// One entry more, with this reply.
+pub fn ran_on(ran: Ran, reply: Reply) -> Ran
+    requires { ran.entries + 1 < 2 ^ 64 }
     ensures { result ≡ record { entries = ran.entries + 1; halted = ran.halted || halts reply } }
 {
     Ran {
@@ -143,7 +144,7 @@ fn run_line<W: BusWord, B: Bus<W>, K: Sink>(
     out: &mut K,
 ) -> Result<Reply, SinkError>
     requires { is_built_word line.now.word ≡ true }
-    ensures runs { (a : ArrayState) → CanRun bank.old a
+    ensures runs { (a : ArrayState) → CanCall bank.old a
         → RunsWord line.now.word line.now.caller position bank.old bank.new a (record { before = K.taken out.old; after = K.taken out.new; faults_before = K.faults out.old; faults_after = K.faults out.new }) result }
     ensures keeps { KeepsBank bank.old bank.new }
     ensures fault { result ≡ Err Fault → Rose (K.faults out.old) (K.faults out.new) }
@@ -167,10 +168,10 @@ pub fn run_lines<W: BusWord, B: Bus<W>, K: Sink>(
     out: &mut K,
 ) -> Result<Ran, SinkError>
     requires { are_built lines.now ≡ true }
-    ensures ran { IfOk result (λ ran. (a : ArrayState) → CanRun bank.old a
-        → RunsWhole lines.now bank.old bank.new a (K.taken out.old) (K.taken out.new) ran) }
-    ensures stopped { IfErr result (λ _. (a : ArrayState) → CanRun bank.old a
-        → RunsPart lines.now bank.old bank.new a (K.taken out.old) (K.taken out.new)) }
+    ensures ran { IfOk result (λ ran. (a : ArrayState) → CanCall bank.old a
+        → RunsWhole false lines.now bank.old bank.new a (K.taken out.old) (K.taken out.new) ran) }
+    ensures stopped { IfErr result (λ _. (a : ArrayState) → CanCall bank.old a
+        → RunsPart false lines.now bank.old bank.new a (K.taken out.old) (K.taken out.new)) }
     ensures keeps { KeepsBank bank.old bank.new }
     ensures fault { result ≡ Err Fault → Rose (K.faults out.old) (K.faults out.new) }
     ensures later { K.faults out.old ≤ K.faults out.new }

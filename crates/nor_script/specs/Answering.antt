@@ -1,18 +1,12 @@
 -- When a history answers a script.
-use Rattle.std.specs.Prelude.{◌≡◌, ◌≢◌, ◌<◌, ℕ, ◌==◌, List, [], ◌∷◌, ◌++◌, filter, All}
+use Rattle.std.specs.Prelude.{◌≡◌, ◌≢◌, ◌<◌, ℕ, ◌==◌, Bool, true, false, List, [], ◌∷◌, ◌++◌, filter, All}
 use Rattle.nor_array.specs.declared.entry.Entry.{Entry}
-use Rattle.nor_array.specs.declared.entry.Op.{Op}
 use Rattle.nor_array.specs.declared.entry.Op.TheVariants.{EraseOpen, Poll}
-use Rattle.nor_array.specs.declared.entry.Reply.{Reply}
-use Rattle.nor_array.specs.declared.entry.Reply.TheVariants.{Opened, Nothing, NotYet, Occupied}
+use Rattle.nor_array.specs.declared.entry.Reply.TheVariants.{Opened, NotYet}
+use Rattle.nor_array.specs.Entries.{IsOf, IsAwaited}
 use Rattle.nor_script.specs.declared.line.Line.{Line}
 use Rattle.nor_script.specs.declared.line.Word.{Word}
 use Rattle.nor_script.specs.declared.line.Word.TheVariants.{Call, Erase}
-
--- the entry is of this call by this caller
-pub record IsOf (caller : ℕ) (op : Op) (e : Entry) : Type 0 where
-  pub called_by : e.caller ≡ caller
-  pub calls : e.op ≡ op
 
 -- an erase that wasn't opened
 pub record NotOpened (caller block : ℕ) (e : Entry) : Type 0 where
@@ -51,12 +45,6 @@ lines_by caller lines = filter (λ line. line.caller == caller) lines
 abbrev pub entries_by : ℕ → List Entry → List Entry
 entries_by caller entries = filter (λ e. e.caller == caller) entries
 
--- a reply that a caller which waits isn't given
-pub record IsAwaited (reply : Reply) : Type 0 where
-  pub yet : reply ≢ NotYet
-  pub nothing : reply ≢ Nothing
-  pub occupied : (block : ℕ) → reply ≢ Occupied block
-
 -- A history answers a script whose callers race: the cuts come first, and then each caller's entries, taken alone, are
 -- those of its lines.
 pub record AnswersRace (lines : List Line) (entries : List Entry) : Type 0 where
@@ -67,3 +55,8 @@ pub record AnswersRace (lines : List Line) (entries : List Entry) : Type 0 where
   pub callers : All (λ e. 0 < e.caller) raced
   pub each : (caller : ℕ) → 0 < caller → AnswersLines (lines_by caller lines) (entries_by caller raced)
   pub awaited : All (λ e. IsAwaited e.reply) raced
+
+-- A history answers a script that one thread runs, or one whose callers race.
+abbrev pub Answers : (race : Bool) → List Line → List Entry → Type 0
+Answers false lines entries = AnswersRun lines entries
+Answers true lines entries = AnswersRace lines entries

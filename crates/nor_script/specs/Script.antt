@@ -1,8 +1,12 @@
 -- What a script says, line by line.
-use Rattle.std.specs.Prelude.{◌≡◌, ◌≢◌, ℕ, ◌+◌, ◌==◌, nat_lt, Bool, true, false, ◌||◌, if◌then◌else◌, List, [], ◌∷◌, ◌++◌, Result, Ok, Err}
+use Rattle.std.specs.Prelude.{◌≡◌, ◌≢◌, ◌≤◌, ℕ, ◌+◌, ◌==◌, nat_lt, Bool, true, false, ◌||◌, if◌then◌else◌, List, [], ◌∷◌, ◌++◌, length, All, Result, Ok, Err}
 use Rattle.std.specs.List.{slice_split}
+use Rattle.nor_array.specs.declared.entry.Op.{Op}
+use Rattle.nor_array.specs.declared.entry.Op.TheVariants.{Arm, PowerOn}
 use Rattle.nor_script.specs.Grammar.{line_of}
 use Rattle.nor_script.specs.declared.line.Line.{Line}
+use Rattle.nor_script.specs.declared.line.Word.{Word}
+use Rattle.nor_script.specs.declared.line.Word.TheVariants.{Call, Erase}
 use Rattle.nor_script.specs.declared.error.ScriptError.{ScriptError}
 use Rattle.nor_script.specs.declared.error.ScriptError.TheVariants.{TooManyLines, NoMemory}
 
@@ -42,6 +46,21 @@ script_from race has_callers n count (text ∷ texts) =
 -- What a script says: its command lines, or what is wrong with the first that is bad.
 abbrev pub script_of : Bool → List ℕ → Result (List Line) ScriptError
 script_of race text = script_from race false 1 0 (lines_of text)
+
+-- who may ask for a call: a cut and a reboot have no caller, each other call has one from 1 to 8
+abbrev pub CallHasCaller : Op → ℕ → Type 0
+CallHasCaller (Arm cut mask) caller = caller ≡ 0
+CallHasCaller PowerOn caller = caller ≡ 0
+CallHasCaller _ caller = (1 ≤ caller) × (caller ≤ 8)
+
+abbrev pub HasCaller : Word → ℕ → Type 0
+HasCaller (Call op) caller = CallHasCaller op caller
+HasCaller (Erase block) caller = (1 ≤ caller) × (caller ≤ 8)
+
+-- Each line has its caller, and there are at most 65,536.
+pub record IsScript (lines : List Line) : Type 0 where
+  pub few : length lines ≤ 65536
+  pub callers : All (λ line. HasCaller line.word line.caller) lines
 
 -- this was read, or memory ran out
 abbrev pub Reads : {A : Type 0} → Result A ScriptError → Result A ScriptError → Type 0

@@ -42,7 +42,7 @@ mod text;
 mod verb;
 
 pub use error::{LineKind, ScriptError};
-pub use laws::scripts_are_answered_line_by_line;
+pub use laws::{scripts_are_answered_line_by_line, texts_say_scripts};
 pub use line::{Line, Word};
 pub use number::parse_number;
 pub use report::{put_entry, put_totals};

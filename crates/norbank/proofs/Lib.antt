@@ -1,5 +1,7 @@
+pub mod AsAsked
 pub mod BankBytes
 pub mod FileEnds
+pub mod JobStages
 pub mod Piecewise
 pub mod Putting
 pub mod Statuses

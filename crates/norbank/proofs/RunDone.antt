@@ -1,19 +1,17 @@
 -- What can be run is, but for faults and want of memory.
-use Rattle.std.proofs.Common.{◌≡◌, ◌<◌, ◌≤◌, ◌^◌, ◌∙◌, ◌⊎◌, inl, inr, ℕ, List, length, refl, sym, subst, arith, Option, Some, None, Result, Ok, Err, Bool, true, false}
-use Rattle.nor_cell.specs.Chip.{ChipState}
+use Rattle.std.proofs.Common.{◌≡◌, ◌≤◌, ◌∙◌, ◌⊎◌, inl, inr, ℕ, List, sym, subst, arith, Option, Some, None, Result, Bool, true, false}
 use Rattle.nor_image.specs.Image.{image_refusal, width_of}
 use Rattle.nor_io.specs.Files.{FileMap, Rose}
 use Rattle.nor_run.specs.Built.{are_built, is_built_bank}
 use Rattle.nor_run.specs.declared.lines.Ran.{Ran}
 use Rattle.nor_script.specs.Puts.{Taken}
-use Rattle.nor_script.specs.Script.{script_of}
 use Rattle.nor_script.specs.declared.error.ScriptError.{ScriptError}
 use Rattle.nor_script.specs.declared.line.Line.{Line}
 use Rattle.norbank.specs.Endings.{Ending, ends, chips_of_file}
 use Rattle.norbank.specs.Ran.{AreRunnable, IsRunDone}
-use Rattle.norbank.specs.Runs.{write_fault, IsProbeStop, IsLinesStop, IsScriptStop, IsBankStop, IsFileStop, IsTextStop, IsStop, Shelved, Stops, status_of, Saved, ReportsWhole, ReportsPart, Runs, fresh_bus, IsToldStop, ReadFails, RunsTold, RunEnds}
-use Rattle.norbank.specs.Says.{Says, EndsIn, Lacks, IsFound, took}
-use Rattle.norbank.specs.Text.{no_memory, read_fault}
+use Rattle.norbank.specs.Runs.{write_fault, IsProbeStop, IsLinesStop, IsScriptStop, IsBankStop, IsFileStop, IsTextStop, IsStop, Shelved, status_of, Saved, Runs, fresh_bus, IsToldStop, RunEnds}
+use Rattle.norbank.specs.Says.{Says, EndsIn, Lacks, took}
+use Rattle.norbank.specs.Text.{read_fault}
 
 clash : {X : Type 0} (o : Option X) (x : X) → o ≡ None → o ≡ Some x → ⊥
 clash o x none some = let both : None ≡ Some x = sym none ∙ some in cc
@@ -26,7 +24,7 @@ unlike b is other = true_false (sym is ∙ other)
 
 -- ---- none of its stops comes
 
-module _ (files : FileMap) (name script_name file text : List ℕ) (lines : List Line) (can : AreRunnable files name script_name file text lines) (e : Ending) where
+module _ (race : Bool) (files : FileMap) (name script_name file text : List ℕ) (lines : List Line) (can : AreRunnable race files name script_name file text lines) (e : Ending) where
   no_probe_stop : IsProbeStop (width_of file) (chips_of_file file) e → ⊥
   no_probe_stop (inl refused) = clash _ refused.0 can.accepted.accepted refused.1
   no_probe_stop (inr locks) = unlike _ locks.0.locks (can.unlocked locks.0.found locks.0.is_found)
@@ -35,27 +33,27 @@ module _ (files : FileMap) (name script_name file text : List ℕ) (lines : List
   no_lines_stop (inl unbuilt) = unlike (are_built lines) can.can.lines_built unbuilt.0
   no_lines_stop (inr built) = no_probe_stop built.1
 
-  no_bank_stop : IsBankStop (width_of file) (chips_of_file file) text e → ⊥
+  no_bank_stop : IsBankStop race (width_of file) (chips_of_file file) text e → ⊥
   no_bank_stop (inl unbuilt) = unlike (is_built_bank (chips_of_file file)) can.can.built unbuilt.0
   no_bank_stop (inr built) = no_lines_stop (subst (λ (r : Result (List Line) ScriptError). IsScriptStop r (width_of file) (chips_of_file file) e) can.can.script built.1)
 
-  no_file_stop : IsFileStop file text e → ⊥
+  no_file_stop : IsFileStop race file text e → ⊥
   no_file_stop (inl refused) = clash (image_refusal file) refused.0 can.can.formed refused.1
   no_file_stop (inr formed) = no_bank_stop formed.1
 
-  no_text_stop : IsTextStop file (Some text) script_name e → ⊥
+  no_text_stop : IsTextStop race file (Some text) script_name e → ⊥
   no_text_stop (inl large) = let few = can.short in let many = large.0 in omega arith
   no_text_stop (inr small) = no_file_stop small.1
 
-  no_stop : IsStop (Some file) (Some text) name script_name e → ⊥
+  no_stop : IsStop race (Some file) (Some text) name script_name e → ⊥
   no_stop (inl large) = let few = can.few_bytes in let many = large.0 in omega arith
   no_stop (inr small) = no_text_stop small.1
 
-  no_told_stop : IsToldStop (Some files) name script_name e → ⊥
+  no_told_stop : IsToldStop race (Some files) name script_name e → ⊥
   no_told_stop is =
       let one : is.file ≡ Some file = sym is.is_file ∙ can.is_file in
       let two : is.text ≡ Some text = sym is.is_text ∙ can.is_text in
-      no_stop (subst (λ (t : Option (List ℕ)). IsStop (Some file) t name script_name e) two (subst (λ (f : Option (List ℕ)). IsStop f is.text name script_name e) one is.is))
+      no_stop (subst (λ (t : Option (List ℕ)). IsStop race (Some file) t name script_name e) two (subst (λ (f : Option (List ℕ)). IsStop race f is.text name script_name e) one is.is))
 
 -- ---- what comes
 
@@ -81,24 +79,24 @@ saved_done name saved ran shelf before taken status f le (inl done) = inl (code_
 saved_done name saved ran shelf before taken status f le (inr (same, inl fault)) = inr (fault_done shelf taken status f (write_fault name) fault.0 fault.1)
 saved_done name saved ran shelf before taken status f le (inr (same, inr lacks)) = inr (lacks_done shelf taken status f le lacks)
 
-runs_done : (width : ℕ) (lines : List Line) (file name : List ℕ) (shelf : Shelved) (taken : Taken) (status : ℕ) → Runs width lines (fresh_bus (chips_of_file file)) name shelf taken status
+runs_done : (race : Bool) (width : ℕ) (lines : List Line) (file name : List ℕ) (shelf : Shelved) (taken : Taken) (status : ℕ) → Runs race width lines (fresh_bus (chips_of_file file)) name shelf taken status
     → IsRunDone shelf taken status
-runs_done width lines file name shelf taken status (inl whole) =
+runs_done race width lines file name shelf taken status (inl whole) =
     saved_done name whole.saved whole.ran shelf taken.before (took whole.mid taken.after whole.faults taken.faults_after) status taken.faults_before whole.later whole.ends
-runs_done width lines file name shelf taken status (inr part) = by part.ends
+runs_done race width lines file name shelf taken status (inr part) = by part.ends
   where
     by : ((status ≡ 7) × Rose taken.faults_before taken.faults_after) ⊎ (status ≡ 9) → IsRunDone shelf taken status
     by (inl seven) = inr (inl (seven.0, inr seven.1))
     by (inr nine) = inr (inr nine)
 
-pub run_done : (files : FileMap) (name script_name file text : List ℕ) (lines : List Line) (shelf : Shelved) (taken : Taken) (status : ℕ) → shelf.before ≡ Some files
-    → AreRunnable files name script_name file text lines → RunEnds name script_name shelf taken status → IsRunDone shelf taken status
-run_done files name script_name file text lines shelf taken status told can (inl stops) = by stops.says
+pub run_done : (race : Bool) (files : FileMap) (name script_name file text : List ℕ) (lines : List Line) (shelf : Shelved) (taken : Taken) (status : ℕ) → shelf.before ≡ Some files
+    → AreRunnable race files name script_name file text lines → RunEnds race name script_name shelf taken status → IsRunDone shelf taken status
+run_done race files name script_name file text lines shelf taken status told can (inl stops) = by stops.says
   where
-    by : EndsIn (IsToldStop shelf.before name script_name) taken status ⊎ Lacks taken status → IsRunDone shelf taken status
-    by (inl so) = absurd (no_told_stop files name script_name file text lines can so.ending (subst (λ (o : Option FileMap). IsToldStop o name script_name so.ending) told so.is))
+    by : EndsIn (IsToldStop race shelf.before name script_name) taken status ⊎ Lacks taken status → IsRunDone shelf taken status
+    by (inl so) = absurd (no_told_stop race files name script_name file text lines can so.ending (subst (λ (o : Option FileMap). IsToldStop race o name script_name so.ending) told so.is))
     by (inr lacks) = inr (lacks_done shelf taken status taken.faults_before (omega arith) lacks)
-run_done files name script_name file text lines shelf taken status told can (inr (inl (inl fails))) = inr (fault_done shelf taken status taken.faults_before (read_fault name) fails.rose fails.says)
-run_done files name script_name file text lines shelf taken status told can (inr (inl (inr fails))) = inr (fault_done shelf taken status taken.faults_before (read_fault script_name) fails.fails.rose fails.fails.says)
-run_done files name script_name file text lines shelf taken status told can (inr (inr ran)) =
-    runs_done (width_of ran.file) ran.runs.runs.lines ran.file name shelf taken status ran.runs.runs.runs
+run_done race files name script_name file text lines shelf taken status told can (inr (inl (inl fails))) = inr (fault_done shelf taken status taken.faults_before (read_fault name) fails.rose fails.says)
+run_done race files name script_name file text lines shelf taken status told can (inr (inl (inr fails))) = inr (fault_done shelf taken status taken.faults_before (read_fault script_name) fails.fails.rose fails.fails.says)
+run_done race files name script_name file text lines shelf taken status told can (inr (inr ran)) =
+    runs_done race (width_of ran.file) ran.runs.runs.lines ran.file name shelf taken status ran.runs.runs.runs

@@ -1,13 +1,11 @@
 -- What a status tells of how a run ended.
-use Rattle.std.proofs.Common.{◌≡◌, ◌≢◌, ◌<◌, ◌≤◌, ◌+◌, ◌^◌, ◌∙◌, ◌⊎◌, inl, inr, ℕ, List, length, refl, sym, ap, subst, arith, Option, Some, None, Result, Ok, Err, Bool, true, false}
+use Rattle.std.proofs.Common.{◌≡◌, ◌≢◌, ◌≤◌, ◌∙◌, ◌⊎◌, inl, inr, ℕ, List, sym, subst, arith, Option, Some, None, Result, Ok, Err, Bool, true, false}
 use Rattle.nor_cell.specs.Chip.{ChipState}
-use Rattle.nor_bus.specs.Driven.{AllLanes}
-use Rattle.nor_image.specs.Image.{image_refusal, width_of}
+use Rattle.nor_image.specs.Image.{width_of}
 use Rattle.nor_image.specs.declared.error.ImageError.{ImageError}
 use Rattle.nor_image.specs.declared.error.ImageError.TheVariants.{BadMagic, BadHeader, Truncated, Trailing, SizeDiffers, NoMemory}
 use Rattle.nor_io.specs.Files.{FileMap, Rose, Saves}
-use Rattle.nor_run.specs.Built.{are_built, is_built_bank}
-use Rattle.nor_run.specs.Scripts.{RunsImage, ShowsQry}
+use Rattle.nor_run.specs.Scripts.{RunsImage}
 use Rattle.nor_run.specs.declared.lines.Ran.{Ran}
 use Rattle.nor_script.specs.Puts.{Taken}
 use Rattle.nor_script.specs.Script.{script_of}
@@ -15,9 +13,9 @@ use Rattle.nor_script.specs.declared.error.ScriptError.{ScriptError}
 use Rattle.nor_script.specs.declared.error.ScriptError.TheVariants.{BadLine, BadCaller, TooManyLines, NoMemory as NoScriptMemory}
 use Rattle.nor_script.specs.declared.line.Line.{Line}
 use Rattle.norbank.specs.Endings.{Ending, ends, refused_ending, unfound_ending, chips_of_file}
-use Rattle.norbank.specs.Ran.{RanImage, AreRunnable, IsRunDone}
-use Rattle.norbank.specs.Runs.{script_ending, script_too_large, write_fault, IsProbeStop, IsLinesStop, IsScriptStop, IsBankStop, IsFileStop, IsTextStop, IsStop, Shelved, Stops, status_of, Saved, ReportsWhole, ReportsPart, Runs, fresh_bus, CanRunFile, IsToldStop, ReadFails, RunsTold, RunEnds}
-use Rattle.norbank.specs.Says.{Says, EndsIn, Lacks, IsFound, took}
+use Rattle.norbank.specs.Ran.{RanImage}
+use Rattle.norbank.specs.Runs.{script_ending, script_too_large, write_fault, IsProbeStop, IsLinesStop, IsScriptStop, IsBankStop, IsFileStop, IsTextStop, IsStop, Shelved, Stops, status_of, Saved, Runs, fresh_bus, IsToldStop, ReadFails, RunsTold, RunEnds}
+use Rattle.norbank.specs.Says.{Says, EndsIn, Lacks, took}
 use Rattle.norbank.specs.Text.{no_memory, not_built, too_large, absent, read_fault}
 
 -- ---- the status of each stop
@@ -63,23 +61,23 @@ script_of_stop : (r : Result (List Line) ScriptError) (width : ℕ) (chips : Lis
 script_of_stop (Err error) width chips e is = stop_as e (script_ending error) is (script_stop error)
 script_of_stop (Ok lines) width chips e is = lines_stop lines width chips e is
 
-bank_stop : (width : ℕ) (chips : List ChipState) (text : List ℕ) (e : Ending) → IsBankStop width chips text e → IsStopCode e
-bank_stop width chips text e (inl unbuilt) = stop_as e (ends 11 not_built) unbuilt.1 unbuilt_stop
-bank_stop width chips text e (inr built) = script_of_stop (script_of false text) width chips e built.1
+bank_stop : (race : Bool) (width : ℕ) (chips : List ChipState) (text : List ℕ) (e : Ending) → IsBankStop race width chips text e → IsStopCode e
+bank_stop race width chips text e (inl unbuilt) = stop_as e (ends 11 not_built) unbuilt.1 unbuilt_stop
+bank_stop race width chips text e (inr built) = script_of_stop (script_of race text) width chips e built.1
 
-file_stop : (file text : List ℕ) (e : Ending) → IsFileStop file text e → IsStopCode e
-file_stop file text e (inl refused) = stop_as e (refused_ending refused.0) refused.2 (refused_stop refused.0)
-file_stop file text e (inr formed) = bank_stop (width_of file) (chips_of_file file) text e formed.1
+file_stop : (race : Bool) (file text : List ℕ) (e : Ending) → IsFileStop race file text e → IsStopCode e
+file_stop race file text e (inl refused) = stop_as e (refused_ending refused.0) refused.2 (refused_stop refused.0)
+file_stop race file text e (inr formed) = bank_stop race (width_of file) (chips_of_file file) text e formed.1
 
-text_stop : (file : List ℕ) (text : Option (List ℕ)) (name : List ℕ) (e : Ending) → IsTextStop file text name e → IsStopCode e
-text_stop file None name e is = stop_as e (ends 8 (absent name)) is (absent_stop name)
-text_stop file (Some text) name e (inl large) = stop_as e (ends 4 script_too_large) large.1 (record { done = λ x. omega arith; halted = λ x. omega arith; fault = λ x. omega arith })
-text_stop file (Some text) name e (inr small) = file_stop file text e small.1
+text_stop : (race : Bool) (file : List ℕ) (text : Option (List ℕ)) (name : List ℕ) (e : Ending) → IsTextStop race file text name e → IsStopCode e
+text_stop race file None name e is = stop_as e (ends 8 (absent name)) is (absent_stop name)
+text_stop race file (Some text) name e (inl large) = stop_as e (ends 4 script_too_large) large.1 (record { done = λ x. omega arith; halted = λ x. omega arith; fault = λ x. omega arith })
+text_stop race file (Some text) name e (inr small) = file_stop race file text e small.1
 
-stop_code : (file text : Option (List ℕ)) (name script_name : List ℕ) (e : Ending) → IsStop file text name script_name e → IsStopCode e
-stop_code None text name script_name e is = stop_as e (ends 8 (absent name)) is (absent_stop name)
-stop_code (Some file) text name script_name e (inl large) = stop_as e (ends 3 too_large) large.1 (record { done = λ x. omega arith; halted = λ x. omega arith; fault = λ x. omega arith })
-stop_code (Some file) text name script_name e (inr small) = text_stop file text script_name e small.1
+stop_code : (race : Bool) (file text : Option (List ℕ)) (name script_name : List ℕ) (e : Ending) → IsStop race file text name script_name e → IsStopCode e
+stop_code race None text name script_name e is = stop_as e (ends 8 (absent name)) is (absent_stop name)
+stop_code race (Some file) text name script_name e (inl large) = stop_as e (ends 3 too_large) large.1 (record { done = λ x. omega arith; halted = λ x. omega arith; fault = λ x. omega arith })
+stop_code race (Some file) text name script_name e (inr small) = text_stop race file text script_name e small.1
 
 -- ---- what is said with a status
 
@@ -112,8 +110,8 @@ stops_never_done IsEnding shelf taken status codes stops done = by stops.says
     by (inl so) = let code = codes so.ending so.is in not_done so.ending taken status code.done code.halted so.says done
     by (inr lacks) = not_done (ends 9 no_memory) taken status (λ x. omega arith) (λ x. omega arith) lacks done
 
-told_code : (told : Option FileMap) (name script_name : List ℕ) (e : Ending) → IsToldStop told name script_name e → IsStopCode e
-told_code told name script_name e is = stop_code is.file is.text name script_name e is.is
+told_code : (race : Bool) (told : Option FileMap) (name script_name : List ℕ) (e : Ending) → IsToldStop race told name script_name e → IsStopCode e
+told_code race told name script_name e is = stop_code race is.file is.text name script_name e is.is
 
 fails_never_done : (name : List ℕ) (shelf : Shelved) (taken : Taken) (status : ℕ) → ReadFails name shelf taken status → (status ≡ 0) ⊎ (status ≡ 6) → ⊥
 fails_never_done name shelf taken status fails done = not_done (ends 7 (read_fault name)) taken status (λ x. omega arith) (λ x. omega arith) fails.says done
@@ -136,11 +134,11 @@ saved_so name saved ran shelf taken status (inl done) is = record { code = done.
 saved_so name saved ran shelf taken status (inr (same, inl fault)) is = absurd (not_done (ends 7 (write_fault name)) taken status (λ x. omega arith) (λ x. omega arith) fault.1 is)
 saved_so name saved ran shelf taken status (inr (same, inr lacks)) is = absurd (not_done (ends 9 no_memory) taken status (λ x. omega arith) (λ x. omega arith) lacks is)
 
-told_ran : (name script_name : List ℕ) (shelf : Shelved) (taken : Taken) (status : ℕ) → RunsTold name script_name shelf taken status → (status ≡ 0) ⊎ (status ≡ 6)
-    → RanImage name script_name shelf taken status
-told_ran name script_name shelf taken status told is = by told.runs.runs.runs
+told_ran : (race : Bool) (name script_name : List ℕ) (shelf : Shelved) (taken : Taken) (status : ℕ) → RunsTold race name script_name shelf taken status → (status ≡ 0) ⊎ (status ≡ 6)
+    → RanImage race name script_name shelf taken status
+told_ran race name script_name shelf taken status told is = by told.runs.runs.runs
   where
-    by : Runs (width_of told.file) told.runs.runs.lines (fresh_bus (chips_of_file told.file)) name shelf taken status → RanImage name script_name shelf taken status
+    by : Runs race (width_of told.file) told.runs.runs.lines (fresh_bus (chips_of_file told.file)) name shelf taken status → RanImage race name script_name shelf taken status
     by (inl whole) =
         let so = saved_so name whole.saved whole.ran shelf (took whole.mid taken.after whole.faults taken.faults_after) status whole.ends is in
         record {
@@ -156,18 +154,18 @@ told_ran name script_name shelf taken status told is = by told.runs.runs.runs
           saved = whole.saved;
           code = so.code;
           runs = λ qry.
-              subst (λ (o : Option (List ℕ)). RunsImage (width_of told.file) told.runs.runs.lines (fresh_bus (chips_of_file told.file)) taken.before o whole.ran whole.saved) (sym so.text) (whole.runs qry);
+              subst (λ (o : Option (List ℕ)). RunsImage race (width_of told.file) told.runs.runs.lines (fresh_bus (chips_of_file told.file)) taken.before o whole.ran whole.saved) (sym so.text) (whole.runs qry);
           saves = so.saves;
         }
     by (inr part) = absurd (part_never_done status taken.faults_before taken.faults_after part.ends is)
 
-pub run_ran : (name script_name : List ℕ) (shelf : Shelved) (taken : Taken) (status : ℕ) → RunEnds name script_name shelf taken status → (status ≡ 0) ⊎ (status ≡ 6)
-    → RanImage name script_name shelf taken status
-run_ran name script_name shelf taken status (inl stops) is =
-    absurd (stops_never_done (IsToldStop shelf.before name script_name) shelf taken status (told_code shelf.before name script_name) stops is)
-run_ran name script_name shelf taken status (inr (inl (inl fails))) is = absurd (fails_never_done name shelf taken status fails is)
-run_ran name script_name shelf taken status (inr (inl (inr fails))) is = absurd (fails_never_done script_name shelf taken status fails.fails is)
-run_ran name script_name shelf taken status (inr (inr told)) is = told_ran name script_name shelf taken status told is
+pub run_ran : (race : Bool) (name script_name : List ℕ) (shelf : Shelved) (taken : Taken) (status : ℕ) → RunEnds race name script_name shelf taken status → (status ≡ 0) ⊎ (status ≡ 6)
+    → RanImage race name script_name shelf taken status
+run_ran race name script_name shelf taken status (inl stops) is =
+    absurd (stops_never_done (IsToldStop race shelf.before name script_name) shelf taken status (told_code race shelf.before name script_name) stops is)
+run_ran race name script_name shelf taken status (inr (inl (inl fails))) is = absurd (fails_never_done name shelf taken status fails is)
+run_ran race name script_name shelf taken status (inr (inl (inr fails))) is = absurd (fails_never_done script_name shelf taken status fails.fails is)
+run_ran race name script_name shelf taken status (inr (inr told)) is = told_ran race name script_name shelf taken status told is
 
 -- ---- another status: no file has changed
 
@@ -183,14 +181,14 @@ saved_kept : (name saved : List ℕ) (ran : Ran) (shelf : Shelved) (taken : Take
 saved_kept name saved ran shelf taken status (inl done) zero_not six_not = absurd (not_either status zero_not six_not (status_cases ran.halted status done.0))
 saved_kept name saved ran shelf taken status (inr (same, why)) zero_not six_not = same
 
-pub run_kept : (name script_name : List ℕ) (shelf : Shelved) (taken : Taken) (status : ℕ) → RunEnds name script_name shelf taken status → status ≢ 0 → status ≢ 6
+pub run_kept : (race : Bool) (name script_name : List ℕ) (shelf : Shelved) (taken : Taken) (status : ℕ) → RunEnds race name script_name shelf taken status → status ≢ 0 → status ≢ 6
     → shelf.after ≡ shelf.before
-run_kept name script_name shelf taken status (inl stops) zero_not six_not = stops.kept
-run_kept name script_name shelf taken status (inr (inl (inl fails))) zero_not six_not = fails.kept
-run_kept name script_name shelf taken status (inr (inl (inr fails))) zero_not six_not = fails.fails.kept
-run_kept name script_name shelf taken status (inr (inr told)) zero_not six_not = by told.runs.runs.runs
+run_kept race name script_name shelf taken status (inl stops) zero_not six_not = stops.kept
+run_kept race name script_name shelf taken status (inr (inl (inl fails))) zero_not six_not = fails.kept
+run_kept race name script_name shelf taken status (inr (inl (inr fails))) zero_not six_not = fails.fails.kept
+run_kept race name script_name shelf taken status (inr (inr told)) zero_not six_not = by told.runs.runs.runs
   where
-    by : Runs (width_of told.file) told.runs.runs.lines (fresh_bus (chips_of_file told.file)) name shelf taken status → shelf.after ≡ shelf.before
+    by : Runs race (width_of told.file) told.runs.runs.lines (fresh_bus (chips_of_file told.file)) name shelf taken status → shelf.after ≡ shelf.before
     by (inl whole) = saved_kept name whole.saved whole.ran shelf (took whole.mid taken.after whole.faults taken.faults_after) status whole.ends zero_not six_not
     by (inr part) = part.kept
 
@@ -210,21 +208,21 @@ saved_seven name saved ran shelf taken status f le (inr (same, inl fault)) is = 
 saved_seven name saved ran shelf taken status f le (inr (same, inr lacks)) is =
     inr (rose_early f taken.faults_before taken.faults_after le (seven_of (ends 9 no_memory) taken status (λ x. omega arith) lacks is))
 
-pub run_seven : (name script_name : List ℕ) (shelf : Shelved) (taken : Taken) (status : ℕ) → RunEnds name script_name shelf taken status → status ≡ 7
+pub run_seven : (race : Bool) (name script_name : List ℕ) (shelf : Shelved) (taken : Taken) (status : ℕ) → RunEnds race name script_name shelf taken status → status ≡ 7
     → Rose shelf.faults_before shelf.faults_after ⊎ Rose taken.faults_before taken.faults_after
-run_seven name script_name shelf taken status (inl stops) is = inr (by stops.says)
+run_seven race name script_name shelf taken status (inl stops) is = inr (by stops.says)
   where
-    by : EndsIn (IsToldStop shelf.before name script_name) taken status ⊎ Lacks taken status → Rose taken.faults_before taken.faults_after
-    by (inl so) = seven_of so.ending taken status (told_code shelf.before name script_name so.ending so.is).fault so.says is
+    by : EndsIn (IsToldStop race shelf.before name script_name) taken status ⊎ Lacks taken status → Rose taken.faults_before taken.faults_after
+    by (inl so) = seven_of so.ending taken status (told_code race shelf.before name script_name so.ending so.is).fault so.says is
     by (inr lacks) = seven_of (ends 9 no_memory) taken status (λ x. omega arith) lacks is
-run_seven name script_name shelf taken status (inr (inl (inl fails))) is = inl fails.rose
-run_seven name script_name shelf taken status (inr (inl (inr fails))) is = inl fails.fails.rose
-run_seven name script_name shelf taken status (inr (inr told)) is = by told.runs.runs.runs
+run_seven race name script_name shelf taken status (inr (inl (inl fails))) is = inl fails.rose
+run_seven race name script_name shelf taken status (inr (inl (inr fails))) is = inl fails.fails.rose
+run_seven race name script_name shelf taken status (inr (inr told)) is = by told.runs.runs.runs
   where
     from_part : ((status ≡ 7) × Rose taken.faults_before taken.faults_after) ⊎ (status ≡ 9) → Rose taken.faults_before taken.faults_after
     from_part (inl seven) = seven.1
     from_part (inr nine) = absurd (omega arith)
 
-    by : Runs (width_of told.file) told.runs.runs.lines (fresh_bus (chips_of_file told.file)) name shelf taken status → Rose shelf.faults_before shelf.faults_after ⊎ Rose taken.faults_before taken.faults_after
+    by : Runs race (width_of told.file) told.runs.runs.lines (fresh_bus (chips_of_file told.file)) name shelf taken status → Rose shelf.faults_before shelf.faults_after ⊎ Rose taken.faults_before taken.faults_after
     by (inl whole) = saved_seven name whole.saved whole.ran shelf (took whole.mid taken.after whole.faults taken.faults_after) status taken.faults_before whole.later whole.ends is
     by (inr part) = inr (from_part part.ends)

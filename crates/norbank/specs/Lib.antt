@@ -1,5 +1,7 @@
 pub mod Answering
+pub mod AsAsked
 pub mod Endings
+pub mod Jobs
 pub mod Open
 pub mod Ran
 pub mod Runs

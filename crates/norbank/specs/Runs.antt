@@ -66,27 +66,27 @@ IsScriptStop (Err error) width chips ending = ending ≡ script_ending error
 IsScriptStop (Ok lines) width chips ending = IsLinesStop lines width chips ending
 
 -- on the chips of the bank
-abbrev pub IsBankStop : ℕ → List ChipState → List ℕ → Ending → Type 0
-IsBankStop width chips text ending =
+abbrev pub IsBankStop : (race : Bool) → ℕ → List ChipState → List ℕ → Ending → Type 0
+IsBankStop race width chips text ending =
     ((is_built_bank chips ≡ false) × (ending ≡ ends 11 not_built))
-    ⊎ ((is_built_bank chips ≡ true) × IsScriptStop (script_of false text) width chips ending)
+    ⊎ ((is_built_bank chips ≡ true) × IsScriptStop (script_of race text) width chips ending)
 
 -- on the bytes of the image
-abbrev pub IsFileStop : List ℕ → List ℕ → Ending → Type 0
-IsFileStop file text ending =
+abbrev pub IsFileStop : (race : Bool) → List ℕ → List ℕ → Ending → Type 0
+IsFileStop race file text ending =
     ((error : ImageError) × (image_refusal file ≡ Some error) × (ending ≡ refused_ending error))
-    ⊎ ((image_refusal file ≡ None) × IsBankStop (width_of file) (chips_of_file file) text ending)
+    ⊎ ((image_refusal file ≡ None) × IsBankStop race (width_of file) (chips_of_file file) text ending)
 
 -- on what is under the script's name, and under the image's
-abbrev pub IsTextStop : List ℕ → Option (List ℕ) → List ℕ → Ending → Type 0
-IsTextStop file None script_name ending = ending ≡ ends 8 (absent script_name)
-IsTextStop file (Some text) script_name ending =
-    ((2 ^ 30 < length text) × (ending ≡ ends 4 script_too_large)) ⊎ ((length text ≤ 2 ^ 30) × IsFileStop file text ending)
+abbrev pub IsTextStop : (race : Bool) → List ℕ → Option (List ℕ) → List ℕ → Ending → Type 0
+IsTextStop race file None script_name ending = ending ≡ ends 8 (absent script_name)
+IsTextStop race file (Some text) script_name ending =
+    ((2 ^ 30 < length text) × (ending ≡ ends 4 script_too_large)) ⊎ ((length text ≤ 2 ^ 30) × IsFileStop race file text ending)
 
-abbrev pub IsStop : Option (List ℕ) → Option (List ℕ) → (image_name script_name : List ℕ) → Ending → Type 0
-IsStop None text image_name script_name ending = ending ≡ ends 8 (absent image_name)
-IsStop (Some file) text image_name script_name ending =
-    ((2 ^ 30 < length file) × (ending ≡ ends 3 too_large)) ⊎ ((length file ≤ 2 ^ 30) × IsTextStop file text script_name ending)
+abbrev pub IsStop : (race : Bool) → Option (List ℕ) → Option (List ℕ) → (image_name script_name : List ℕ) → Ending → Type 0
+IsStop race None text image_name script_name ending = ending ≡ ends 8 (absent image_name)
+IsStop race (Some file) text image_name script_name ending =
+    ((2 ^ 30 < length file) × (ending ≡ ends 3 too_large)) ⊎ ((length file ≤ 2 ^ 30) × IsTextStop race file text script_name ending)
 
 -- ---- what becomes of the shelf
 
@@ -121,24 +121,24 @@ Saved name saved ran shelf taken status =
 -- ---- a run
 
 -- The report was put whole, and then the bank was to be saved.
-pub record ReportsWhole (width : ℕ) (lines : List Line) (bus : BusState) (name : List ℕ) (shelf : Shelved) (taken : Taken) (status : ℕ) : Type 0 where
+pub record ReportsWhole (race : Bool) (width : ℕ) (lines : List Line) (bus : BusState) (name : List ℕ) (shelf : Shelved) (taken : Taken) (status : ℕ) : Type 0 where
   pub ran : Ran
   pub saved : List ℕ
   pub mid : Option (List ℕ)
   pub faults : ℕ
-  pub runs : AllLanes ShowsQry bus → RunsImage width lines bus taken.before mid ran saved
+  pub runs : AllLanes ShowsQry bus → RunsImage race width lines bus taken.before mid ran saved
   pub later : taken.faults_before ≤ faults
   pub ends : Saved name saved ran shelf (took mid taken.after faults taken.faults_after) status
 
 -- It wasn't put whole, which the sink's count tells, or for want of memory; and no file has changed.
-pub record ReportsPart (width : ℕ) (lines : List Line) (bus : BusState) (shelf : Shelved) (taken : Taken) (status : ℕ) : Type 0 where
+pub record ReportsPart (race : Bool) (width : ℕ) (lines : List Line) (bus : BusState) (shelf : Shelved) (taken : Taken) (status : ℕ) : Type 0 where
   pub kept : shelf.after ≡ shelf.before
-  pub runs : AllLanes ShowsQry bus → (new : BusState) × RunsPartly width lines bus new taken.before taken.after
+  pub runs : AllLanes ShowsQry bus → (new : BusState) × RunsPartly race width lines bus new taken.before taken.after
   pub ends : ((status ≡ 7) × Rose taken.faults_before taken.faults_after) ⊎ (status ≡ 9)
 
-abbrev pub Runs : ℕ → List Line → BusState → List ℕ → Shelved → Taken → ℕ → Type 0
-Runs width lines bus name shelf taken status =
-    ReportsWhole width lines bus name shelf taken status ⊎ ReportsPart width lines bus shelf taken status
+abbrev pub Runs : (race : Bool) → ℕ → List Line → BusState → List ℕ → Shelved → Taken → ℕ → Type 0
+Runs race width lines bus name shelf taken status =
+    ReportsWhole race width lines bus name shelf taken status ⊎ ReportsPart race width lines bus shelf taken status
 
 -- the bus that a loaded bank of these chips has
 abbrev pub fresh_bus : List ChipState → BusState
@@ -146,46 +146,46 @@ fresh_bus chips = record { lanes = chips; power = true; armed = None; cycles = 0
 
 -- The file is a bank's for which running is built, probing accepts it, its table offers no locks, and the text is a script
 -- of such lines.
-pub record CanRunFile (file text : List ℕ) (lines : List Line) : Type 0 where
+pub record CanRunFile (race : Bool) (file text : List ℕ) (lines : List Line) : Type 0 where
   pub formed : image_refusal file ≡ None
   pub built : is_built_bank (chips_of_file file) ≡ true
-  pub script : script_of false text ≡ Ok lines
+  pub script : script_of race text ≡ Ok lines
   pub lines_built : are_built lines ≡ true
   pub locks : HasLocks (width_of file) (chips_of_file file) false
 
 -- ---- stage by stage
 
-abbrev pub BuiltRuns : ℕ → List Line → BusState → List ℕ → Shelved → Taken → ℕ → Type 0
-BuiltRuns width lines bus name shelf taken status =
+abbrev pub BuiltRuns : (race : Bool) → ℕ → List Line → BusState → List ℕ → Shelved → Taken → ℕ → Type 0
+BuiltRuns race width lines bus name shelf taken status =
     Stops (IsProbeStop width bus.lanes) shelf taken status
-    ⊎ (HasLocks width bus.lanes false × Runs width lines bus name shelf taken status)
+    ⊎ (HasLocks width bus.lanes false × Runs race width lines bus name shelf taken status)
 
-abbrev pub LinesRun : ℕ → List Line → BusState → List ℕ → Shelved → Taken → ℕ → Type 0
-LinesRun width lines bus name shelf taken status =
+abbrev pub LinesRun : (race : Bool) → ℕ → List Line → BusState → List ℕ → Shelved → Taken → ℕ → Type 0
+LinesRun race width lines bus name shelf taken status =
     Stops (IsLinesStop lines width bus.lanes) shelf taken status
-    ⊎ ((are_built lines ≡ true) × HasLocks width bus.lanes false × Runs width lines bus name shelf taken status)
+    ⊎ ((are_built lines ≡ true) × HasLocks width bus.lanes false × Runs race width lines bus name shelf taken status)
 
 -- a script of lines that are built was run
-pub record RunsText (width : ℕ) (text : List ℕ) (bus : BusState) (name : List ℕ) (shelf : Shelved) (taken : Taken) (status : ℕ) : Type 0 where
+pub record RunsText (race : Bool) (width : ℕ) (text : List ℕ) (bus : BusState) (name : List ℕ) (shelf : Shelved) (taken : Taken) (status : ℕ) : Type 0 where
   pub lines : List Line
   pub built : is_built_bank bus.lanes ≡ true
-  pub script : script_of false text ≡ Ok lines
+  pub script : script_of race text ≡ Ok lines
   pub lines_built : are_built lines ≡ true
   pub locks : HasLocks width bus.lanes false
-  pub runs : Runs width lines bus name shelf taken status
+  pub runs : Runs race width lines bus name shelf taken status
 
-abbrev pub TextRuns : ℕ → List ℕ → BusState → List ℕ → Shelved → Taken → ℕ → Type 0
-TextRuns width text bus name shelf taken status =
-    Stops (IsBankStop width bus.lanes text) shelf taken status ⊎ RunsText width text bus name shelf taken status
+abbrev pub TextRuns : (race : Bool) → ℕ → List ℕ → BusState → List ℕ → Shelved → Taken → ℕ → Type 0
+TextRuns race width text bus name shelf taken status =
+    Stops (IsBankStop race width bus.lanes text) shelf taken status ⊎ RunsText race width text bus name shelf taken status
 
 -- on the bank that a file stands for
-pub record RunsFile (file text : List ℕ) (name : List ℕ) (shelf : Shelved) (taken : Taken) (status : ℕ) : Type 0 where
+pub record RunsFile (race : Bool) (file text : List ℕ) (name : List ℕ) (shelf : Shelved) (taken : Taken) (status : ℕ) : Type 0 where
   pub lines : List Line
-  pub can : CanRunFile file text lines
-  pub runs : Runs (width_of file) lines (fresh_bus (chips_of_file file)) name shelf taken status
+  pub can : CanRunFile race file text lines
+  pub runs : Runs race (width_of file) lines (fresh_bus (chips_of_file file)) name shelf taken status
 
-abbrev pub FileRuns : (file text : List ℕ) → List ℕ → Shelved → Taken → ℕ → Type 0
-FileRuns file text name shelf taken status = Stops (IsFileStop file text) shelf taken status ⊎ RunsFile file text name shelf taken status
+abbrev pub FileRuns : (race : Bool) (file text : List ℕ) → List ℕ → Shelved → Taken → ℕ → Type 0
+FileRuns race file text name shelf taken status = Stops (IsFileStop race file text) shelf taken status ⊎ RunsFile race file text name shelf taken status
 
 -- A file couldn't be read, which the shelf's count tells.
 pub record ReadFails (name : List ℕ) (shelf : Shelved) (taken : Taken) (status : ℕ) : Type 0 where
@@ -194,37 +194,37 @@ pub record ReadFails (name : List ℕ) (shelf : Shelved) (taken : Taken) (status
   pub says : Says (ends 7 (read_fault name)) taken status
 
 -- what is under the script's name, as far as the shelf tells it, says how the run stops
-pub record IsToldText (told : Option FileMap) (file script_name : List ℕ) (ending : Ending) : Type 0 where
+pub record IsToldText (race : Bool) (told : Option FileMap) (file script_name : List ℕ) (ending : Ending) : Type 0 where
   pub text : Option (List ℕ)
   pub is_text : IsFound told script_name text
-  pub is : IsTextStop file text script_name ending
+  pub is : IsTextStop race file text script_name ending
 
 -- the script under the name was run
-pub record RunsNamed (file name script_name : List ℕ) (shelf : Shelved) (taken : Taken) (status : ℕ) : Type 0 where
+pub record RunsNamed (race : Bool) (file name script_name : List ℕ) (shelf : Shelved) (taken : Taken) (status : ℕ) : Type 0 where
   pub text : List ℕ
   pub is_text : IsFound shelf.before script_name (Some text)
   pub short : length text ≤ 2 ^ 30
-  pub runs : RunsFile file text name shelf taken status
+  pub runs : RunsFile race file text name shelf taken status
 
-abbrev pub NamedRuns : (file name script_name : List ℕ) → Shelved → Taken → ℕ → Type 0
-NamedRuns file name script_name shelf taken status =
-    Stops (IsToldText shelf.before file script_name) shelf taken status
-    ⊎ (ReadFails script_name shelf taken status ⊎ RunsNamed file name script_name shelf taken status)
+abbrev pub NamedRuns : (race : Bool) (file name script_name : List ℕ) → Shelved → Taken → ℕ → Type 0
+NamedRuns race file name script_name shelf taken status =
+    Stops (IsToldText race shelf.before file script_name) shelf taken status
+    ⊎ (ReadFails script_name shelf taken status ⊎ RunsNamed race file name script_name shelf taken status)
 
 -- and what is under both names
-pub record IsToldStop (told : Option FileMap) (name script_name : List ℕ) (ending : Ending) : Type 0 where
+pub record IsToldStop (race : Bool) (told : Option FileMap) (name script_name : List ℕ) (ending : Ending) : Type 0 where
   pub file : Option (List ℕ)
   pub is_file : IsFound told name file
   pub text : Option (List ℕ)
   pub is_text : IsFound told script_name text
-  pub is : IsStop file text name script_name ending
+  pub is : IsStop race file text name script_name ending
 
 -- The script was run on the bank.
-pub record RunsTold (name script_name : List ℕ) (shelf : Shelved) (taken : Taken) (status : ℕ) : Type 0 where
+pub record RunsTold (race : Bool) (name script_name : List ℕ) (shelf : Shelved) (taken : Taken) (status : ℕ) : Type 0 where
   pub file : List ℕ
   pub is_file : IsFound shelf.before name (Some file)
   pub few_bytes : length file ≤ 2 ^ 30
-  pub runs : RunsNamed file name script_name shelf taken status
+  pub runs : RunsNamed race file name script_name shelf taken status
 
 -- The image was read, and then the script couldn't be.
 pub record ScriptFails (name script_name : List ℕ) (shelf : Shelved) (taken : Taken) (status : ℕ) : Type 0 where
@@ -234,7 +234,7 @@ pub record ScriptFails (name script_name : List ℕ) (shelf : Shelved) (taken : 
   pub fails : ReadFails script_name shelf taken status
 
 -- A run stops as the files under its names say, or as one of them can't be read, or the script was run.
-abbrev pub RunEnds : (name script_name : List ℕ) → Shelved → Taken → ℕ → Type 0
-RunEnds name script_name shelf taken status =
-    Stops (IsToldStop shelf.before name script_name) shelf taken status
-    ⊎ ((ReadFails name shelf taken status ⊎ ScriptFails name script_name shelf taken status) ⊎ RunsTold name script_name shelf taken status)
+abbrev pub RunEnds : (race : Bool) (name script_name : List ℕ) → Shelved → Taken → ℕ → Type 0
+RunEnds race name script_name shelf taken status =
+    Stops (IsToldStop race shelf.before name script_name) shelf taken status
+    ⊎ ((ReadFails name shelf taken status ⊎ ScriptFails name script_name shelf taken status) ⊎ RunsTold race name script_name shelf taken status)

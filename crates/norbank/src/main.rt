@@ -1,17 +1,20 @@
 //! norbank: reads and programs banks of parallel NOR flash chips from their images.
 //!
-//! `main` hands the words, the files and the output to `quiet`, which does the work and carries the
+//! `main` hands the words, the files and the output to `norbank`, which does the work and carries the
 //! promises: how each command ends, with which text and status, by the words and the bytes of the
-//! files, as `specs/Endings.antt` and `specs/Runs.antt` say. `words` reads the words, `loading` makes a
-//! bank of the file, `answering` probes the bank and does what is asked of it, `printing` puts bytes as
-//! text; `running` runs a script on a bank and saves it, `script` says what is wrong with a script. It
-//! stands on nor_image for the file, on nor_probe, nor_show and nor_bank for the bank, on nor_script and
-//! nor_run for scripts, and on nor_io for files and output.
+//! files, as `specs/AsAsked.antt` and `specs/Ran.antt` say. It races a script itself and hands every other
+//! command to `quiet`, which waits for nobody. `words` reads the words, `loading` makes a bank of the file,
+//! `answering` probes the bank and does what is asked of it, `printing` puts bytes as text; `jobs` takes the
+//! bank and the script of a run or a race, `running` runs or races them and saves the bank, `script` says what is wrong with a
+//! script. It stands on nor_image for the file, on nor_probe, nor_show and nor_bank for the bank, on
+//! nor_script, nor_run and nor_race for scripts, and on nor_io for files and output.
 #![tactic(auto)]
 
 mod answering;
+mod jobs;
 mod loading;
 mod printing;
+mod program;
 mod quiet;
 mod running;
 mod script;
@@ -21,6 +24,7 @@ mod tests;
 mod words;
 
 use nor_io::{FsShelf, StdSink};
+use nor_race::OpenGate;
 use std::io::ErrorKind;
 use std::process::ExitCode;
 use std::{env, io};
@@ -39,12 +43,12 @@ fn main(rt: HostRuntime) -> ExitCode {
     let mut shelf = FsShelf::new(&rt);
     let mut out = StdSink::new(io::writer(&rt));
     let status = match words_of(&rt) {
-        Ok(words) => quiet::quiet(alloc, &words, &mut shelf, &mut out),
+        Ok(words) => program::norbank(&rt, alloc, &words, &mut shelf, &mut out, &OpenGate),
         Err(error) if error.kind() == ErrorKind::OutOfMemory => {
             status::say(9, b"no memory\n", &mut out)
         }
         // A word that isn't UTF-8 matches no form.
-        Err(_) => quiet::quiet(alloc, &[], &mut shelf, &mut out),
+        Err(_) => program::norbank(&rt, alloc, &[], &mut shelf, &mut out, &OpenGate),
     };
     ExitCode::from(status.code)
 }

@@ -1,20 +1,30 @@
-// A script on the bank of an image, stage by stage.
-ghost use Rattle.std.specs.Prelude.{◌≡◌, ◌≤◌, ◌^◌, length, true};
+// A script on the bank of an image.
+ghost use Rattle.std.specs.Prelude.{◌≡◌, ◌≢◌, ◌≤◌, ℕ, List, Bool, true, false, Option, Err};
+ghost use Rattle.nor_bus.specs.Bus.{BusState};
+ghost use Rattle.nor_bus.specs.Driven.{AllLanes};
+ghost use Rattle.nor_io.specs.Files.{FileMap};
+ghost use Rattle.nor_probe.specs.declared.error.ProbeError.{ProbeError as ProbeErrorOf};
+ghost use Rattle.nor_probe.specs.declared.error.ProbeError.TheVariants.{Off as LostPower};
 ghost use Rattle.nor_image.specs.Loaded.{bus_of, loaded_width};
-ghost use Rattle.nor_run.specs.Built.{are_built as all_are_built, is_built_bank};
-ghost use Rattle.nor_run.specs.Scripts.{IsLoaded};
-ghost use Rattle.norbank.specs.Runs.{shelved, status_of, Saved, BuiltRuns, LinesRun, TextRuns, FileRuns, NamedRuns, RunEnds};
+ghost use Rattle.nor_run.specs.Built.{are_built, is_built_bank};
+ghost use Rattle.nor_run.specs.declared.error.RunError.TheVariants.{Probe as ProbeRefuses};
+ghost use Rattle.nor_run.specs.Scripts.{IsLoaded, ShowsQry, EndsRun, ReportsImage};
+ghost use Rattle.nor_script.specs.Script.{IsScript};
+ghost use Rattle.nor_script.specs.declared.line.Line.{Line as LineOf};
+ghost use Rattle.norbank.specs.Runs.{shelved, status_of, Saved, BuiltRuns, RunEnds};
 ghost use Rattle.norbank.specs.Says.{took};
 
 use crate::answering::say_unfound;
-use crate::loading::say_refused;
-use crate::script::say_no_script;
+use crate::jobs::{Job, job_of};
 use crate::status::{Status, after_put, say, say_line};
-use nor_image::{Loaded, read_image};
-use nor_io::{LoadError, SaveError, Shelf, Sink};
-use nor_run::{Ran, RunError, are_built, is_built, run_image};
-use nor_script::{Script, parse_script};
+use nor_image::Loaded;
+use nor_io::{SaveError, Shelf, Sink};
+use nor_race::{Gate, race_image};
+use nor_run::{Ran, RunError, run_image};
+use nor_script::Script;
 use std::alloc::Global;
+use std::sync::Wait;
+use std::thread::Threads;
 
 fn code_of(ran: Ran) -> u8
     ensures { result ≡ status_of ran.halted }
@@ -39,31 +49,46 @@ fn save_bank<H: Shelf, K: Sink>(
     }
 }
 
-// Runs a script of lines that are built, on a bank for which running is built.
-fn run_built<H: Shelf, K: Sink>(
+// Says why a script wasn't run, or not to its end.
+fn say_unrun<K: Sink>(alloc: Global, error: RunError, out: &mut K) -> Status
+    requires probed { (why : ProbeErrorOf) → error ≡ ProbeRefuses why → why ≢ LostPower }
+    ensures runs { (race : Bool) (width : ℕ) (lines : List LineOf) (bus : BusState) (name file : List ℕ) (files : Option FileMap) (f g : ℕ) (before : Option (List ℕ)) (faults : ℕ)
+        → is_built_bank bus.lanes ≡ true
+        → EndsRun race width bus.lanes (took before (K.taken out.old) faults (K.faults out.old)) (Err error)
+        → (AllLanes ShowsQry bus → ReportsImage race width lines bus (took before (K.taken out.old) faults (K.faults out.old)) file (Err error))
+        → BuiltRuns race width lines bus name (shelved files files f g) (took before (K.taken out.new) faults (K.faults out.new)) result.code }
+{
+    match error {
+        RunError::Probe(why) => say_unfound(alloc, why, out),
+        RunError::NotBuilt => say(11, b"not built\n", out),
+        RunError::NoMemory => say(9, b"no memory\n", out),
+        RunError::Put(why) => after_put(0, Err(why)),
+    }
+}
+
+// Ends a run or a race: saves the bank, or says why it wasn't run.
+fn finish<H: Shelf, K: Sink>(
     alloc: Global,
     name: &str,
-    file: &mut [u8],
-    loaded: Loaded,
-    script: &Script,
+    file: &[u8],
+    ran: Result<Ran, RunError>,
     shelf: &mut H,
     out: &mut K,
 ) -> Status
-    requires loaded { IsLoaded file.old loaded }
-    requires built { is_built_bank (bus_of loaded).lanes ≡ true }
-    requires lines { all_are_built script.now ≡ true }
-    ensures runs { BuiltRuns (loaded_width loaded) script.now (bus_of loaded) name.now (shelved (H.files shelf.old) (H.files shelf.new) (H.faults shelf.old) (H.faults shelf.new)) (took (K.taken out.old) (K.taken out.new) (K.faults out.old) (K.faults out.new)) result.code }
+    requires probed { (why : ProbeErrorOf) → ran ≡ Err (ProbeRefuses why) → why ≢ LostPower }
+    ensures runs { (race : Bool) (width : ℕ) (lines : List LineOf) (bus : BusState) (before : Option (List ℕ)) (faults : ℕ) → is_built_bank bus.lanes ≡ true → faults ≤ K.faults out.old
+        → EndsRun race width bus.lanes (took before (K.taken out.old) faults (K.faults out.old)) ran
+        → (AllLanes ShowsQry bus → ReportsImage race width lines bus (took before (K.taken out.old) faults (K.faults out.old)) file.now ran)
+        → BuiltRuns race width lines bus name.now (shelved (H.files shelf.old) (H.files shelf.new) (H.faults shelf.old) (H.faults shelf.new)) (took before (K.taken out.new) faults (K.faults out.new)) result.code }
 {
-    match run_image(loaded, file, script.lines(), out) {
+    match ran {
         Ok(ran) => save_bank(name, file, ran, shelf, out),
-        Err(RunError::Probe(error)) => say_unfound(alloc, error, out),
-        Err(RunError::NotBuilt) => say(11, b"not built\n", out),
-        Err(RunError::Put(error)) => after_put(0, Err(error)),
+        Err(error) => say_unrun(alloc, error, out),
     }
 }
 
-// Runs a script.
-fn run_script<H: Shelf, K: Sink>(
+// Runs a script on a bank that was loaded from a file.
+fn run_job<H: Shelf, K: Sink>(
     alloc: Global,
     name: &str,
     file: &mut [u8],
@@ -74,74 +99,33 @@ fn run_script<H: Shelf, K: Sink>(
 ) -> Status
     requires loaded { IsLoaded file.old loaded }
     requires built { is_built_bank (bus_of loaded).lanes ≡ true }
-    ensures runs { LinesRun (loaded_width loaded) script.now (bus_of loaded) name.now (shelved (H.files shelf.old) (H.files shelf.new) (H.faults shelf.old) (H.faults shelf.new)) (took (K.taken out.old) (K.taken out.new) (K.faults out.old) (K.faults out.new)) result.code }
+    requires lines { are_built script.now ≡ true }
+    ensures runs { BuiltRuns false (loaded_width loaded) script.now (bus_of loaded) name.now (shelved (H.files shelf.old) (H.files shelf.new) (H.faults shelf.old) (H.faults shelf.new)) (took (K.taken out.old) (K.taken out.new) (K.faults out.old) (K.faults out.new)) result.code }
 {
-    if !are_built(script.lines()) {
-        return say(11, b"not built\n", out);
-    }
-    run_built(alloc, name, file, loaded, script, shelf, out)
+    let ran = run_image(loaded, file, script.lines(), out);
+    finish(alloc, name, file, ran, shelf, out)
 }
 
-// Runs the script that a text says.
-fn run_text<H: Shelf, K: Sink>(
+// Races a script for a bank that was loaded from a file.
+fn race_job<R: Threads + Wait + Sync, H: Shelf, K: Sink, G: Gate + Sync>(
+    rt: &R,
     alloc: Global,
     name: &str,
     file: &mut [u8],
     loaded: Loaded,
-    text: &[u8],
+    script: &Script,
     shelf: &mut H,
     out: &mut K,
+    gate: &G,
 ) -> Status
     requires loaded { IsLoaded file.old loaded }
-    requires small { length text.now ≤ 2 ^ 30 }
-    ensures runs { TextRuns (loaded_width loaded) text.now (bus_of loaded) name.now (shelved (H.files shelf.old) (H.files shelf.new) (H.faults shelf.old) (H.faults shelf.new)) (took (K.taken out.old) (K.taken out.new) (K.faults out.old) (K.faults out.new)) result.code }
+    requires built { is_built_bank (bus_of loaded).lanes ≡ true }
+    requires script { IsScript script.now }
+    requires lines { are_built script.now ≡ true }
+    ensures runs { BuiltRuns true (loaded_width loaded) script.now (bus_of loaded) name.now (shelved (H.files shelf.old) (H.files shelf.new) (H.faults shelf.old) (H.faults shelf.new)) (took (K.taken out.old) (K.taken out.new) (K.faults out.old) (K.faults out.new)) result.code }
 {
-    if !is_built(&loaded) {
-        return say(11, b"not built\n", out);
-    }
-    match parse_script(alloc, text, false) {
-        Ok(script) => run_script(alloc, name, file, loaded, &script, shelf, out),
-        Err(error) => say_no_script(error, out),
-    }
-}
-
-// Runs the script that a text says on the bank that a file stands for.
-fn run_file<H: Shelf, K: Sink>(
-    alloc: Global,
-    name: &str,
-    file: Vec<u8>,
-    text: &[u8],
-    shelf: &mut H,
-    out: &mut K,
-) -> Status
-    requires small { length text.now ≤ 2 ^ 30 }
-    ensures runs { FileRuns file.items text.now name.now (shelved (H.files shelf.old) (H.files shelf.new) (H.faults shelf.old) (H.faults shelf.new)) (took (K.taken out.old) (K.taken out.new) (K.faults out.old) (K.faults out.new)) result.code }
-{
-    let mut file = file;
-    match read_image(alloc, &file) {
-        Ok(loaded) => run_text(alloc, name, &mut file, loaded, text, shelf, out),
-        Err(error) => say_refused(error, out),
-    }
-}
-
-// Runs the script under a name on the bank that a file stands for.
-fn run_named<H: Shelf, K: Sink>(
-    alloc: Global,
-    name: &str,
-    file: Vec<u8>,
-    script: &str,
-    shelf: &mut H,
-    out: &mut K,
-) -> Status
-    ensures runs { NamedRuns file.items name.now script.now (shelved (H.files shelf.old) (H.files shelf.new) (H.faults shelf.old) (H.faults shelf.new)) (took (K.taken out.old) (K.taken out.new) (K.faults out.old) (K.faults out.new)) result.code }
-{
-    match shelf.load(alloc, script) {
-        Ok(text) => run_file(alloc, name, file, &text, shelf, out),
-        Err(LoadError::Absent) => say_line(8, b"absent ", script.as_bytes(), out),
-        Err(LoadError::ReadFault) => say_line(7, b"read fault ", script.as_bytes(), out),
-        Err(LoadError::TooLarge) => say(4, b"script: too large\n", out),
-        Err(LoadError::NoMemory) => say(9, b"no memory\n", out),
-    }
+    let ran = race_image(rt, alloc, loaded, file, script, gate, out);
+    finish(alloc, name, file, ran, shelf, out)
 }
 
 /// Runs the script under one name on the bank that the file under another stands for, puts the report,
@@ -153,13 +137,47 @@ pub fn run<H: Shelf, K: Sink>(
     shelf: &mut H,
     out: &mut K,
 ) -> Status
-    ensures runs { RunEnds name.now script.now (shelved (H.files shelf.old) (H.files shelf.new) (H.faults shelf.old) (H.faults shelf.new)) (took (K.taken out.old) (K.taken out.new) (K.faults out.old) (K.faults out.new)) result.code }
+    ensures runs { RunEnds false name.now script.now (shelved (H.files shelf.old) (H.files shelf.new) (H.faults shelf.old) (H.faults shelf.new)) (took (K.taken out.old) (K.taken out.new) (K.faults out.old) (K.faults out.new)) result.code }
 {
-    match shelf.load(alloc, name) {
-        Ok(file) => run_named(alloc, name, file, script, shelf, out),
-        Err(LoadError::Absent) => say_line(8, b"absent ", name.as_bytes(), out),
-        Err(LoadError::ReadFault) => say_line(7, b"read fault ", name.as_bytes(), out),
-        Err(LoadError::TooLarge) => say(3, b"image: too large\n", out),
-        Err(LoadError::NoMemory) => say(9, b"no memory\n", out),
+    match job_of(alloc, name, script, false, shelf, out) {
+        Ok(job) => {
+            let Job {
+                file,
+                loaded,
+                script,
+            } = job;
+            let mut file = file;
+            run_job(alloc, name, &mut file, loaded, &script, shelf, out)
+        }
+        Err(status) => status,
+    }
+}
+
+/// Races the script under one name for the bank that the file under another stands for, puts the report,
+/// and saves the bank under its name.
+pub fn race<R: Threads + Wait + Sync, H: Shelf, K: Sink, G: Gate + Sync>(
+    rt: &R,
+    alloc: Global,
+    name: &str,
+    script: &str,
+    shelf: &mut H,
+    out: &mut K,
+    gate: &G,
+) -> Status
+    ensures runs { RunEnds true name.now script.now (shelved (H.files shelf.old) (H.files shelf.new) (H.faults shelf.old) (H.faults shelf.new)) (took (K.taken out.old) (K.taken out.new) (K.faults out.old) (K.faults out.new)) result.code }
+{
+    match job_of(alloc, name, script, true, shelf, out) {
+        Ok(job) => {
+            let Job {
+                file,
+                loaded,
+                script,
+            } = job;
+            let mut file = file;
+            race_job(
+                rt, alloc, name, &mut file, loaded, &script, shelf, out, gate,
+            )
+        }
+        Err(status) => status,
     }
 }

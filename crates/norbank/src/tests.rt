@@ -1,5 +1,6 @@
 //! The program over shelves and sinks in memory: banks of each kind, and each refusal.
 mod images;
+mod races;
 mod runs;
 
 use crate::quiet::quiet;

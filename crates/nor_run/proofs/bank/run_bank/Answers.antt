@@ -1,29 +1,30 @@
-use Rattle.std.proofs.Common.{refl, sym}
-use Rattle.nor_bus.proofs.Driving.{keeps_then}
-use Rattle.nor_bank.specs.Stands.{array_of}
-use Rattle.nor_run.proofs.Reporting.{starts_so, all_rest, refused_as, never_lost, can_run, reports, ends_run}
+use Rattle.std.proofs.Common.{false, sym}
+use Rattle.nor_script.specs.Puts.{Taken}
+use Rattle.nor_run.proofs.Growing.{put_runs, put_ends}
+use Rattle.nor_run.proofs.Reporting.{reports, ends_run, keeps_lanes}
 use Rattle.nor_run.proofs.bank.run_bank.Goals as goal
 
 pub returns-in-Ok-clause-ends : goal.returns-in-Ok-clause-ends
 returns-in-Ok-clause-ends g c =
-    ends_run g.W.BusWord.WIDTH c.args.bank c.in-Ok.bank _ c.run_started.result.1 (sym c.if-not-is_built_for.ensures.built)
-    (c.in-Ok.ensures.found (all_rest g.W.BusWord.WIDTH c.args.bank c.requires.loaded)) c.run_started.ensures.ends
+    let before = g.K.Sink.taken c.args.out.now in
+    let faults = g.K.Sink.faults c.args.out.now in
+    let mid : Taken = record { before = before; after = g.K.Sink.taken c.run_lines.new.out; faults_before = faults; faults_after = g.K.Sink.faults c.run_lines.new.out } in
+    let last : Taken = record { before = before; after = g.K.Sink.taken c.put_end-ran.new.out; faults_before = faults; faults_after = g.K.Sink.faults c.put_end-ran.new.out } in
+    ends_run false g.W.BusWord.WIDTH c.args.bank c.in-Ok.bank last c.put_end-ran.result c.in-Ok.ensures.started
+    (c.put_end-ran.ensures.ends false before faults c.run_lines.ensures.later (put_ends false mid c.run_lines.result c.of_put-ran.result c.of_put-ran.ensures c.run_lines.ensures.fault))
 
 pub returns-in-Ok-clause-reports : goal.returns-in-Ok-clause-reports
-returns-in-Ok-clause-reports g c = λ qry.
-    let found = c.in-Ok.ensures.found (all_rest g.W.BusWord.WIDTH c.args.bank c.requires.loaded) in
-    let is = starts_so g.W.BusWord.WIDTH c.args.bank c.in-Ok.bank c.requires.loaded c.is_built_for.ensures.ranges qry found c.in-Ok.ensures.fresh c.in-Ok.ensures.lanes c.in-Ok.ensures.counted c.in-Ok.ensures.stands in
-    reports g.W.BusWord.WIDTH c.args.bank c.args.lines.now c.in-Ok.bank c.run_started.result.0 _ c.run_started.result.1 is c.run_started.ensures.ends
-    (c.run_started.ensures.reports (array_of c.in-Ok.bank) (λ none. can_run g.W.BusWord.WIDTH c.args.bank c.in-Ok.bank is (sym c.if-not-is_built_for.ensures.built) none))
+returns-in-Ok-clause-reports g c =
+    let before = g.K.Sink.taken c.args.out.now in
+    let faults = g.K.Sink.faults c.args.out.now in
+    let lines = c.args.lines.now in
+    let mid : Taken = record { before = before; after = g.K.Sink.taken c.run_lines.new.out; faults_before = faults; faults_after = g.K.Sink.faults c.run_lines.new.out } in
+    let last : Taken = record { before = before; after = g.K.Sink.taken c.put_end-ran.new.out; faults_before = faults; faults_after = g.K.Sink.faults c.put_end-ran.new.out } in
+    reports false g.W.BusWord.WIDTH c.args.bank lines c.in-Ok.bank c.run_lines.new.bank c.stop.result last c.put_end-ran.result c.in-Ok.ensures.started c.stop.ensures c.run_lines.ensures.keeps
+    (λ a can.
+    c.put_end-ran.ensures.reports false lines c.in-Ok.bank c.run_lines.new.bank a before faults (sym c.bus.ensures)
+    (put_runs lines c.in-Ok.bank c.run_lines.new.bank a mid c.run_lines.result c.of_put-ran.result can c.of_put-ran.ensures c.run_lines.ensures.ran c.run_lines.ensures.stopped))
 
 pub returns-in-Ok-clause-lanes : goal.returns-in-Ok-clause-lanes
 returns-in-Ok-clause-lanes g c =
-    keeps_then c.args.bank c.in-Ok.bank.bus c.run_started.result.0 c.in-Ok.ensures.counted.went.kept c.run_started.ensures.lanes
-
-pub returns-in-Err-clause-ends : goal.returns-in-Err-clause-ends
-returns-in-Err-clause-ends g c = (
-  sym c.if-not-is_built_for.ensures.built,
-  refused_as g.W.BusWord.WIDTH c.args.bank c.in-Err.bank c.in-Err.error c.requires.loaded c.in-Err.ensures.refused c.in-Err.ensures.lost,
-  λ is. never_lost g.W.BusWord.WIDTH c.args.bank c.in-Err.bank c.requires.loaded (c.in-Err.ensures.lost is),
-  record { text = refl; faults = refl },
-)
+    keeps_lanes c.args.bank c.stop.result g.W.BusWord.WIDTH c.in-Ok.bank c.run_lines.new.bank c.in-Ok.ensures.started c.run_lines.ensures.keeps c.stop.ensures

@@ -1,4 +1,4 @@
-use Rattle.std.proofs.Common.{◌∙◌, ℕ, List, length, ap, sym}
+use Rattle.std.proofs.Common.{◌∙◌, false, ℕ, List, length, ap, sym}
 use Rattle.nor_image.specs.Image.{device_of}
 use Rattle.nor_image.specs.Loaded.{bus_of, loaded_width}
 use Rattle.nor_run.proofs.FileSizes.{file_length}
@@ -22,7 +22,7 @@ fill_image-requires g c =
 
 pub returns-in-Ok-clause-reports : goal.returns-in-Ok-clause-reports
 returns-in-Ok-clause-reports g c = λ qry.
-    image_reports (loaded_width c.args.loaded) (loaded_width c.run_loaded-loaded.result.0) c.args.lines.now (bus_of c.args.loaded) (bus_of c.run_loaded-loaded.result.0)
+    image_reports false (loaded_width c.args.loaded) (loaded_width c.run_loaded-loaded.result.0) c.args.lines.now (bus_of c.args.loaded) (bus_of c.run_loaded-loaded.result.0)
     (record { before = g.K.Sink.taken c.args.out.now; after = g.K.Sink.taken c.run_loaded-loaded.new.out; faults_before = g.K.Sink.faults c.args.out.now; faults_after = g.K.Sink.faults c.run_loaded-loaded.new.out })
     c.in-Ok.ran c.run_loaded-loaded.result.1
     c.fill_image.new.file c.run_loaded-loaded.ensures.width (device_of c.args.file.now) c.requires.loaded.bank c.requires.loaded.storable c.run_loaded-loaded.ensures.lanes c.in-Ok.is

@@ -1,6 +1,6 @@
 use Rattle.std.proofs.Common.{◌∙◌, ◌+◌, ℕ, refl, sym, ap, subst, arith}
-use Rattle.nor_run.proofs.Calling.{keeps_self}
-use Rattle.nor_run.proofs.Growing.{RunsSoFar, err_is, no_line, word_more, line_built, word_stopped, all_run, keeps_bank_then}
+use Rattle.nor_bank.proofs.Keeping.{keeps_self, keeps_bank_then}
+use Rattle.nor_run.proofs.Growing.{RunsSoFar, err_is, no_line, word_more, line_built, word_stopped, all_run}
 use Rattle.nor_array.specs.After.{after_all}
 use Rattle.nor_script.specs.declared.line.Line.{Line}
 use Rattle.nor_run.specs.Built.{is_built_word}

@@ -1,0 +1,191 @@
+-- A front with one entry more, and with no more.
+use Rattle.std.proofs.Common.{◌≡◌, ◌<◌, ◌≤◌, ◌+◌, ◌∙◌, ◌++◌, ◌∷◌, ℕ, zero, suc, List, [], length, map, Bool, true, Option, Some, None, refl, sym, ap, subst, arith, rules}
+use Rattle.std.specs.Prelude.{All}
+use Rattle.std.proofs.lemmas.List.Elements.{All-push}
+use Rattle.nor_cell.specs.Chip.{ChipState, counted}
+use Rattle.nor_cell.specs.Table.{buffer_units_of}
+use Rattle.nor_bus.specs.Bus.{BusState, lanes_of, chip_at, more}
+use Rattle.nor_bus.specs.Cycles.{KeepsLanes}
+use Rattle.nor_bus.specs.Driven.{EachLane}
+use Rattle.nor_bus.proofs.Driving.{keeps_then}
+use Rattle.nor_query.specs.Derived.{suspend_of}
+use Rattle.nor_probe.specs.declared.probing.Found.{Found}
+use Rattle.nor_array.specs.Array.{ArrayState}
+use Rattle.nor_array.specs.After.{after, after_all}
+use Rattle.nor_array.specs.Legal.{Facts, Agrees, Legal}
+use Rattle.nor_array.specs.declared.entry.Entry.{Entry}
+use Rattle.nor_array.proofs.Histories.{legal_more}
+use Rattle.nor_bank.specs.Calls.{facts_of}
+use Rattle.nor_bank.specs.Programs.{Lasts}
+use Rattle.nor_bank.specs.Stands.{Stands}
+use Rattle.nor_bank.specs.State.{BankState, word_bytes}
+use Rattle.nor_turn.specs.Fronts.{Name, Front}
+use Rattle.nor_bank.specs.Work.{CanCall}
+use Rattle.nor_bank.proofs.Keeping.{keeps_self}
+use Rattle.nor_driver.specs.Fronts.{StandsFrom, StandsFor, entries_of, is_call, opens, loses, words_of, opened, lost, words_read, risen, opener_after, ClosesOwn, AllCloseOwn, cycles_left}
+use Rattle.nor_driver.specs.Made.{GoesOn, Rests}
+use Rattle.nor_driver.proofs.Afters.{same_armed}
+use Rattle.nor_driver.proofs.Cuts.{left_within}
+
+-- ---- lists
+
+pub entries_last : (front : Front Entry) (name : Name) (e : Entry) → entries_of (front ++ (name, e) ∷ []) ≡ entries_of front ++ e ∷ []
+entries_last [] name e = refl
+entries_last (p ∷ front) name e = ap (λ (es : List Entry). p.1 ∷ es) (entries_last front name e)
+
+after_last : (a : ArrayState) (es : List Entry) (e : Entry) → after_all a (es ++ e ∷ []) ≡ after (after_all a es) e
+after_last a [] e = refl
+after_last a (x ∷ es) e = after_last (after a x) es e
+
+opened_last : (es : List Entry) (e : Entry) → opened (es ++ e ∷ []) ≡ opened es + opens e.reply
+opened_last [] e = omega arith
+opened_last (x ∷ es) e = let h = opened_last es e in omega arith
+
+lost_last : (es : List Entry) (e : Entry) → lost (es ++ e ∷ []) ≡ lost es + loses e.reply
+lost_last [] e = omega arith
+lost_last (x ∷ es) e = let h = lost_last es e in omega arith
+
+words_last : (w : ℕ) (es : List Entry) (e : Entry) → words_read w (es ++ e ∷ []) ≡ words_read w es + words_of w e.reply e.op
+words_last w [] e = omega arith
+words_last w (x ∷ es) e = let h = words_last w es e in omega arith
+
+all_last : (P : Entry → Type 0) (es : List Entry) (e : Entry) → All P es → P e → All P (es ++ e ∷ [])
+all_last P es e all one = All-push P es e all one
+
+risen_add : (n j k : ℕ) → risen (risen n j) k ≡ risen n (j + k)
+risen_add n j zero = let h : j ≡ j + 0 = omega arith in ap (risen n) h
+risen_add n j (suc k) = let h : suc (j + k) ≡ j + suc k = omega arith in ap counted (risen_add n j k) ∙ ap (risen n) h
+
+closes_last : (opener : Option Name) (front : Front Entry) (name : Name) (e : Entry) → AllCloseOwn opener front
+    → ((o : Option Name) → ClosesOwn o name e.reply e.op) → AllCloseOwn opener (front ++ (name, e) ∷ [])
+closes_last opener [] name e all one = (one opener, tt)
+closes_last opener (p ∷ front) name e all one =
+    (all.0, closes_last (opener_after opener p.0 p.1.reply p.1.op) front name e all.1 one)
+
+-- ---- what no call changes
+
+same_map : (xs ys : List ChipState) → length ys ≡ length xs → ((c : ℕ) → c < length xs → (chip_at ys c).part ≡ (chip_at xs c).part)
+    → map (λ (s : ChipState). s.part.stuck) ys ≡ map (λ (s : ChipState). s.part.stuck) xs
+same_map [] [] count each = refl
+same_map [] (y ∷ ys) count each = absurd (omega (arith, count))
+same_map (x ∷ xs) [] count each = absurd (omega (arith, count))
+same_map (x ∷ xs) (y ∷ ys) count each =
+    let first : y.part ≡ x.part = each 0 (omega arith) in
+    let rest : map (λ (s : ChipState). s.part.stuck) ys ≡ map (λ (s : ChipState). s.part.stuck) xs =
+    same_map xs ys (omega (arith, count)) (λ c below. each (suc c) (omega arith)) in
+    λ i. (first i).stuck ∷ rest i
+
+abbrev pub facts_from : Found → List Bool → Facts
+facts_from f stuck = record {
+  geometry = f.geometry;
+  buffer_units = buffer_units_of f.geometry.device f.query.buffer_log;
+  suspend = suspend_of f.query.extended;
+  stuck = stuck;
+}
+
+same_facts : (old new : BankState) → new.found ≡ old.found → KeepsLanes old.bus new.bus → facts_of new ≡ facts_of old
+same_facts old new found lanes =
+    let stuck = same_map old.bus.lanes new.bus.lanes lanes.count (λ c below. (lanes.each c below).part) in
+    λ i. facts_from (found i) (stuck i)
+
+pub lasts_then : (x y z : BusState) → KeepsLanes x y → EachLane Lasts x y → EachLane Lasts y z → EachLane Lasts x z
+lasts_then x y z keeps first next = λ c below.
+    let one = first c below in
+    let two = next c (subst (λ (n : ℕ). c < n) (sym keeps.count) below) in
+    record {
+      part = two.part ∙ one.part;
+      locks = two.locks ∙ one.locks;
+      suspends = two.suspends ∙ one.suspends;
+      erases = two.erases ∙ one.erases;
+      size = two.size ∙ one.size;
+      bytes = two.bytes;
+    }
+
+pub lasts_self : (b : BankState) (a : ArrayState) → Stands b a → EachLane Lasts b.bus b.bus
+lasts_self b a stands = λ c below. record {
+  part = refl;
+  locks = refl;
+  suspends = refl;
+  erases = refl;
+  size = refl;
+  bytes = (stands.known.wired.chips c below).chip.bytes;
+}
+
+-- ---- no entry yet
+
+pub stands_first : (b : BankState) → StandsFor b [] b
+stands_first b = record {
+  keeps = keeps_self b;
+  each = λ a can. record {
+    can = can;
+    legal = tt;
+    calls = search rules;
+    closes = tt;
+    found = refl;
+    lanes = record { count = refl; each = λ c below. record { part = refl; size = refl; locks = refl; bytes = λ small. small } };
+    lasts = lasts_self b a can.stands;
+    erases = λ c below. refl;
+    failed = omega arith;
+    reads = λ cut armed. let left = left_within b a cut can.stands armed in omega (arith, left);
+  };
+}
+
+-- ---- one entry more
+
+pub stands_more : (first now next : BankState) (a : ArrayState) (front : Front Entry) (name : Name) (e : Entry)
+    → StandsFrom first a front now → GoesOn now next e (after_all a (entries_of front)) → StandsFrom first a (front ++ (name, e) ∷ []) next
+stands_more first now next a front name e so goes =
+    let es : List Entry = entries_of front in
+    let whole : entries_of (front ++ (name, e) ∷ []) ≡ es ++ e ∷ [] = entries_last front name e in
+    let then : after_all a (entries_of (front ++ (name, e) ∷ [])) ≡ after (after_all a es) e = ap (after_all a) whole ∙ after_last a es e in
+    let agrees : Agrees (facts_of first) (after_all a es) e = subst (λ (f : Facts). Agrees f (after_all a es) e) (same_facts first now so.found so.lanes) goes.agrees in
+    record {
+      can = subst (CanCall next) (sym then) goes.can;
+      legal = subst (Legal (facts_of first) a) (sym whole) (legal_more (facts_of first) a es e so.legal goes.admitted agrees);
+      calls = subst (All (λ (x : Entry). is_call x.op ≡ true)) (sym whole) (all_last (λ (x : Entry). is_call x.op ≡ true) es e so.calls goes.call);
+      closes = closes_last None front name e so.closes (λ o. goes.closes name o);
+      found = goes.found ∙ so.found;
+      lanes = keeps_then first.bus now.bus next.bus so.lanes goes.lanes;
+      lasts = lasts_then first.bus now.bus next.bus so.lanes so.lasts goes.lasts;
+      erases = λ c below.
+          let there : c < lanes_of now.bus = subst (λ (n : ℕ). c < n) (sym so.lanes.count) below in
+          let mid = so.erases c below in
+          let last = goes.erases c there in
+          last ∙ (ap (λ (n : ℕ). risen n (opens e.reply)) mid ∙ (risen_add _ (opened es) (opens e.reply) ∙ ap (risen _) (sym (ap opened whole ∙ opened_last es e))));
+      failed = failed_more (lost (entries_of (front ++ (name, e) ∷ []))) (lost es) (loses e.reply) first.bus.failed now.bus.failed next.bus.failed (ap lost whole ∙ lost_last es e) so.failed goes.failed;
+      reads = λ cut is.
+          let before : (after_all a es).armed ≡ Some cut = sym (ap (λ (x : ArrayState). x.armed) then ∙ same_armed (after_all a es) e goes.call) ∙ is in
+          let words : words_read (word_bytes first.found) (entries_of (front ++ (name, e) ∷ [])) ≡ words_read (word_bytes first.found) es + words_of (word_bytes first.found) e.reply e.op = ap (words_read (word_bytes first.found)) whole ∙ words_last (word_bytes first.found) es e in
+          let left = goes.reads cut before in
+          let w : word_bytes now.found ≡ word_bytes first.found = ap word_bytes so.found in
+          reads_more _ _ (words_of (word_bytes first.found) e.reply e.op) _ (cycles_left (after (after_all a es) e).power next.bus.armed) cut.after
+          words (so.reads cut before) (subst (λ (n : ℕ). words_of n e.reply e.op + cycles_left (after (after_all a es) e).power next.bus.armed ≤ cycles_left (after_all a es).power now.bus.armed) w left)
+          (ap (λ (x : ArrayState). cycles_left x.power next.bus.armed) then);
+    }
+  where
+    failed_more : (n k j f g h : ℕ) → n ≡ k + j → more k f ≤ g → more j g ≤ h → more n f ≤ h
+    failed_more n k j f g h is one two = omega (arith, is, one, two)
+
+    reads_more : (all before one y z cut : ℕ) {t : ℕ} → all ≡ before + one → before + y ≤ cut → one + z ≤ y → t ≡ z → all + t ≤ cut
+    reads_more all before one y z cut is first then same = omega (arith, is, first, then, same)
+
+-- ---- no entry
+
+-- what is waited out leaves a bank that stands for the same front
+pub stands_still : (first now next : BankState) (a : ArrayState) (front : Front Entry)
+    → StandsFrom first a front now → Rests now next (after_all a (entries_of front)) → StandsFrom first a front next
+stands_still first now next a front so rests = record {
+  can = rests.can;
+  legal = so.legal;
+  calls = so.calls;
+  closes = so.closes;
+  found = rests.found ∙ so.found;
+  lanes = keeps_then first.bus now.bus next.bus so.lanes rests.lanes;
+  lasts = lasts_then first.bus now.bus next.bus so.lanes so.lasts rests.lasts;
+  erases = λ c below. rests.erases c (subst (λ (n : ℕ). c < n) (sym so.lanes.count) below) ∙ so.erases c below;
+  failed = no_fewer (lost (entries_of front)) first.bus.failed now.bus.failed next.bus.failed so.failed rests.failed;
+  reads = λ cut is. let before = so.reads cut is in let left = rests.reads in omega (arith, before, left);
+}
+  where
+    no_fewer : (n f g h : ℕ) → more n f ≤ g → more 0 g ≤ h → more n f ≤ h
+    no_fewer n f g h one two = omega (arith, one, two)

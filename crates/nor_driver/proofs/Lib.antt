@@ -1,0 +1,6 @@
+pub mod Afters
+pub mod Calls
+pub mod Cuts
+pub mod Going
+pub mod Replies
+pub mod Turns

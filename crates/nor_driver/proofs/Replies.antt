@@ -1,0 +1,58 @@
+-- What replies tell.
+use Rattle.std.proofs.Common.{◌≡◌, ◌≢◌, ◌≤◌, ◌∙◌, ℕ, List, Bool, true, false, refl, sym, ap}
+use Rattle.nor_bus.specs.Bus.{more}
+use Rattle.nor_array.specs.Entries.{IsAwaited}
+use Rattle.nor_array.specs.declared.entry.Halted.TheVariants.{Off as OffHalt}
+use Rattle.nor_array.specs.declared.entry.Op.{Op}
+use Rattle.nor_array.specs.declared.entry.Reply.{Reply}
+use Rattle.nor_array.specs.declared.entry.Reply.TheVariants.{Done, Opened, OutOfRange, TooLong, Busy, Occupied, Locked, Nothing, NotYet, Failed, Halted}
+use Rattle.nor_bank.specs.Calls.{entry_bytes}
+use Rattle.nor_bank.specs.State.{BankState}
+use Rattle.nor_driver.specs.Callers.{Gives}
+use Rattle.nor_driver.specs.Fronts.{opens, loses}
+use Rattle.nor_driver.specs.Made.{is_waited_out}
+
+pub false_true : false ≡ true → ⊥
+false_true is = cc
+
+-- none that opens or ends an erase, or waits for one
+abbrev pub is_plain : Reply → Bool
+is_plain Done = true
+is_plain OutOfRange = true
+is_plain TooLong = true
+is_plain (Busy b) = true
+is_plain (Locked b) = true
+is_plain (Failed from to lanes) = true
+is_plain (Halted cause) = true
+is_plain _ = false
+
+-- a plain reply isn't one that isn't
+pub plain_other : (r s : Reply) → is_plain r ≡ true → is_plain s ≡ false → r ≢ s
+plain_other r s plain other is = false_true (sym other ∙ (ap is_plain (sym is) ∙ plain))
+
+pub plain_given : (r : Reply) → is_plain r ≡ true → is_waited_out r ≡ true → ⊥
+plain_given NotYet plain waits = false_true plain
+plain_given (Occupied b) plain waits = false_true plain
+plain_given r plain waits = false_true waits
+
+pub plain_opens : (r : Reply) → is_plain r ≡ true → opens r ≡ 0
+plain_opens Opened plain = absurd (false_true plain)
+plain_opens r plain = refl
+
+-- what isn't waited out is awaited
+pub given_awaited : (r : Reply) → is_waited_out r ≡ false → r ≢ Nothing → IsAwaited r
+given_awaited r given some = record {
+  yet = λ is. false_true (sym given ∙ ap is_waited_out is);
+  nothing = some;
+  occupied = λ b is. false_true (sym given ∙ ap is_waited_out is);
+}
+
+-- failed cycles, once more for a loss of power
+pub loses_failed : (r : Reply) (f g : ℕ) → more 0 f ≤ g → ((n : ℕ) → r ≡ Halted (OffHalt n) → more 1 f ≤ g) → more (loses r) f ≤ g
+loses_failed (Halted (OffHalt n)) f g none off = off n refl
+loses_failed r f g none off = none
+
+-- an entry has the data that a call gave
+pub tells_data : (op : Op) (given : List ℕ) (old new : BankState) (r : Reply) → Gives r op given (entry_bytes r op given old new)
+tells_data op given old new Done = refl
+tells_data op given old new r = tt

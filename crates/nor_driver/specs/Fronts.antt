@@ -1,0 +1,132 @@
+-- When a bank under the lock stands for a front of the history.
+use Rattle.std.specs.Prelude.{◌≡◌, ◌≤◌, ◌+◌, ◌==◌, ℕ, zero, suc, if◌then◌else◌, List, [], ◌∷◌, map, Bool, true, false, Option, Some, None, All}
+use Rattle.nor_cell.specs.Chip.{counted}
+use Rattle.nor_bus.specs.Bus.{more}
+use Rattle.nor_bus.specs.Cycles.{KeepsLanes}
+use Rattle.nor_bus.specs.Driven.{EachLane}
+use Rattle.nor_bus.specs.declared.bus.Armed.{Armed}
+use Rattle.nor_array.specs.Array.{ArrayState}
+use Rattle.nor_array.specs.After.{after_all}
+use Rattle.nor_array.specs.Legal.{Legal}
+use Rattle.nor_array.specs.declared.entry.Entry.{Entry}
+use Rattle.nor_array.specs.declared.entry.Halted.TheVariants.{Off as OffHalt}
+use Rattle.nor_array.specs.declared.entry.Op.{Op}
+use Rattle.nor_array.specs.declared.entry.Op.TheVariants.{Read, Program, EraseOpen, Poll, Lock, Unlock, IsLocked, Arm, PowerOn}
+use Rattle.nor_array.specs.declared.entry.Reply.{Reply}
+use Rattle.nor_array.specs.declared.entry.Reply.TheVariants.{Done, Opened, Erased, Failed, Halted as HaltedReply}
+use Rattle.nor_array.specs.declared.state.ArmedCut.{ArmedCut}
+use Rattle.nor_array.specs.declared.state.Power.{Power}
+use Rattle.nor_array.specs.declared.state.Power.TheVariants.{On, Off, Stuck}
+use Rattle.nor_bank.specs.Calls.{facts_of}
+use Rattle.nor_bank.specs.Programs.{Lasts}
+use Rattle.nor_bank.specs.Ranges.{words_met}
+use Rattle.nor_bank.specs.State.{BankState, word_bytes}
+use Rattle.nor_bank.specs.Work.{CanCall, KeepsBank}
+use Rattle.nor_turn.specs.Fronts.{Name, Front}
+
+-- ---- what is told of entries
+
+-- the entries of a front, in their order
+abbrev pub entries_of : Front Entry → List Entry
+entries_of front = map (λ pair. pair.1) front
+
+-- a call of a caller: neither arms a cut nor powers on
+abbrev pub is_call : Op → Bool
+is_call (Read at len) = true
+is_call (Program at new) = true
+is_call (EraseOpen b) = true
+is_call Poll = true
+is_call (Lock b) = true
+is_call (Unlock b) = true
+is_call (IsLocked b) = true
+is_call (Arm cut mask) = false
+is_call PowerOn = false
+
+-- 1 for a reply that opens an erase, and 1 for one that tells a loss of power
+abbrev pub opens : Reply → ℕ
+opens Opened = 1
+opens _ = 0
+
+abbrev pub loses : Reply → ℕ
+loses (HaltedReply (OffHalt n)) = 1
+loses _ = 0
+
+-- how many bus words a read that is done has read
+abbrev pub words_of : ℕ → Reply → Op → ℕ
+words_of w Done (Read at len) = if len == 0 then 0 else words_met at len w
+words_of w _ op = 0
+
+-- the same of all entries
+abbrev pub opened : List Entry → ℕ
+opened [] = 0
+opened (e ∷ es) = opens e.reply + opened es
+
+abbrev pub lost : List Entry → ℕ
+lost [] = 0
+lost (e ∷ es) = loses e.reply + lost es
+
+abbrev pub words_read : ℕ → List Entry → ℕ
+words_read w [] = 0
+words_read w (e ∷ es) = words_of w e.reply e.op + words_read w es
+
+-- a counter of 32 bits that has risen so often, and stays at its last value
+abbrev pub risen : ℕ → ℕ → ℕ
+risen count zero = count
+risen count (suc k) = counted (risen count k)
+
+-- ---- who closes an erase
+
+-- whose erase is under way after an entry
+abbrev pub opener_after : Option Name → Name → Reply → Op → Option Name
+opener_after opener name Opened op = Some name
+opener_after opener name Erased op = None
+opener_after opener name (Failed from to lanes) Poll = None
+opener_after opener name (HaltedReply cause) op = None
+opener_after opener name _ op = opener
+
+-- An erase is closed under the name under which it was opened.
+abbrev pub ClosesOwn : Option Name → Name → Reply → Op → Type 0
+ClosesOwn opener name Erased op = opener ≡ Some name
+ClosesOwn opener name (Failed from to lanes) Poll = opener ≡ Some name
+ClosesOwn opener name _ op = Unit {0}
+
+abbrev pub AllCloseOwn : Option Name → Front Entry → Type 0
+AllCloseOwn opener [] = Unit {0}
+AllCloseOwn opener (pair ∷ front) =
+    ClosesOwn opener pair.0 pair.1.reply pair.1.op
+    × AllCloseOwn (opener_after opener pair.0 pair.1.reply pair.1.op) front
+
+-- ---- an armed cut
+
+-- how many cycles are left of it, while power is on
+abbrev pub cycles_left : Power → Option Armed → ℕ
+cycles_left On (Some armed) = armed.after
+cycles_left On None = 0
+cycles_left Off armed = 0
+cycles_left (Stuck lane) armed = 0
+
+-- ---- the whole
+
+-- The bank went from one that stands for this array to one that stands for the array after the front. Its entries are
+-- legal calls, and each closes no erase but its own. The chips are what they were, but that each erase that was opened is
+-- counted. A cycle failed for each loss of power that was told. While a cut is armed, the words that were read and the
+-- cycles that are left of it are no more than it was armed with.
+pub record StandsFrom (first : BankState) (a : ArrayState) (front : Front Entry) (now : BankState) : Type 0 where
+  pub can : CanCall now (after_all a (entries_of front))
+  pub legal : Legal (facts_of first) a (entries_of front)
+  pub calls : All (λ e. is_call e.op ≡ true) (entries_of front)
+  pub closes : AllCloseOwn None front
+  pub found : now.found ≡ first.found
+  pub lanes : KeepsLanes first.bus now.bus
+  -- Today no call changes more of a chip than its bytes. This goes when erases and locks come; `lanes` and `erases` stay.
+  pub lasts : EachLane Lasts first.bus now.bus
+  pub erases : EachLane (λ s t. t.erases ≡ risen s.erases (opened (entries_of front))) first.bus now.bus
+  pub failed : more (lost (entries_of front)) first.bus.failed ≤ now.bus.failed
+  pub reads : (cut : ArmedCut) → (after_all a (entries_of front)).armed ≡ Some cut
+      → words_read (word_bytes first.found) (entries_of front) + cycles_left (after_all a (entries_of front)).power now.bus.armed ≤ cut.after
+
+-- A bank stands for a front of what was made of the first one. Of a first bank that stood for no array it says only what no call
+-- changes.
+pub record StandsFor (first : BankState) (front : Front Entry) (now : BankState) : Type 0 where
+  pub keeps : KeepsBank first now
+  pub each : (a : ArrayState) → CanCall first a → StandsFrom first a front now

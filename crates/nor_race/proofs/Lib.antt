@@ -1,0 +1,9 @@
+pub mod Joining
+pub mod Working
+pub mod Answering
+pub mod Folding
+pub mod Handing
+pub mod Putting
+pub mod Racing
+pub mod Blank
+pub mod Printing

@@ -1,0 +1,30 @@
+-- What is put of a race.
+use Rattle.std.specs.Prelude.{◌≡◌, ℕ, List, length, slice_get, Option, Some}
+use Rattle.nor_array.specs.declared.entry.Entry.{Entry}
+use Rattle.nor_io.specs.Files.{Appends, AppendsPart}
+use Rattle.nor_script.specs.Report.{entry_lines}
+use Rattle.nor_script.specs.declared.line.Line.{Line}
+use Rattle.nor_run.specs.Running.{has_halt}
+use Rattle.nor_run.specs.declared.lines.Ran.{Ran}
+use Rattle.nor_race.specs.Ran.{Tells}
+use Rattle.nor_race.specs.declared.note.Note.{Note}
+
+-- The notes tell these entries, in their order and each once.
+pub record AreTold (lines : List Line) (notes : List Note) (es : List Entry) : Type 0 where
+  pub count : length notes ≡ length es
+  pub told : (k : ℕ) (note : Note) (e : Entry) → slice_get notes k ≡ Some note → slice_get es k ≡ Some e → Tells lines note e
+
+-- they tell some history
+pub record HasHistory (lines : List Line) (notes : List Note) : Type 0 where
+  pub entries : List Entry
+  pub are : AreTold lines notes entries
+
+-- The history was put.
+pub record PutsAll (es : List Entry) (before after : Option (List ℕ)) (ran : Ran) : Type 0 where
+  pub text : Appends before (entry_lines 0 es) after
+  pub entries : ran.entries ≡ length es
+  pub halted : ran.halted ≡ has_halt es
+
+-- a first part of it was
+abbrev pub PutsSome : List Entry → (before after : Option (List ℕ)) → Type 0
+PutsSome es before after = AppendsPart before (entry_lines 0 es) after

@@ -1,0 +1,78 @@
+//! A script that is raced for the bank of a file.
+ghost use Rattle.std.specs.Prelude.{◌≡◌, ◌≤◌, true, IsErr};
+ghost use Rattle.nor_bus.specs.Cycles.{KeepsLanes};
+ghost use Rattle.nor_bus.specs.Driven.{AllLanes};
+ghost use Rattle.nor_image.specs.Loaded.{bus_of, loaded_width};
+ghost use Rattle.nor_run.specs.Built.{are_built};
+ghost use Rattle.nor_run.specs.Scripts.{IsJustLoaded, IsLoaded, ShowsQry, EndsRun, Reports, ReportsImage};
+ghost use Rattle.nor_script.specs.Script.{IsScript};
+
+use crate::gate::Gate;
+use crate::report::race_bank;
+use nor_image::{Loaded, fill_image};
+use nor_io::Sink;
+use nor_run::{Ran, RunError, with_each_bank};
+use nor_script::Script;
+use std::alloc::Global;
+use std::sync::Wait;
+use std::thread::Threads;
+
+// Races a script for a bank of whichever kind.
+fn race_loaded<R: Threads + Wait + Sync, G: Gate + Sync, K: Sink>(
+    rt: &R,
+    alloc: Global,
+    loaded: Loaded,
+    script: &Script,
+    gate: &G,
+    out: &mut K,
+) -> (Loaded, Result<Ran, RunError>)
+    requires script { IsScript script.now }
+    requires built { are_built script.now ≡ true }
+    requires loaded { IsJustLoaded (loaded_width loaded) (bus_of loaded) }
+    ensures width { loaded_width result.0 ≡ loaded_width loaded }
+    ensures ends { EndsRun true (loaded_width loaded) (bus_of loaded).lanes (record { before = K.taken out.old; after = K.taken out.new; faults_before = K.faults out.old; faults_after = K.faults out.new }) result.1 }
+    ensures reports { AllLanes ShowsQry (bus_of loaded) → Reports true (loaded_width loaded) script.now (bus_of loaded) (bus_of result.0) (record { before = K.taken out.old; after = K.taken out.new; faults_before = K.faults out.old; faults_after = K.faults out.new }) result.1 }
+    ensures lanes { KeepsLanes (bus_of loaded) (bus_of result.0) }
+    ensures later { K.faults out.old ≤ K.faults out.new }
+{
+    with_each_bank!(loaded, bank => race_bank(rt, alloc, bank, script, gate, out))
+}
+
+/// Races a script for the bank that was loaded from a file: the lines of each caller run in their order, in
+/// a thread of their own. When all have ended, puts the report: the entries in the order of the history,
+/// each lane's counters, and the number of entries. The file becomes that of the bank as it then is.
+///
+/// Each line must be built, and the script one that was parsed. The errors are those of
+/// [`nor_run::run_image`], and `NoMemory`, which comes before the first line is run and puts nothing. After an
+/// error the file is as it was.
+///
+/// Where the chips' tables begin with `QRY`, the report is that of one legal history of the plain array that
+/// opens with the bank's bytes, whatever the schedule of the threads; it has each caller's lines once, in
+/// that caller's order, and the file stands for a bank that is as before, but for its cells, which are the
+/// array's bytes.
+pub fn race_image<R: Threads + Wait + Sync, G: Gate + Sync, K: Sink>(
+    rt: &R,
+    alloc: Global,
+    loaded: Loaded,
+    file: &mut [u8],
+    script: &Script,
+    gate: &G,
+    out: &mut K,
+) -> Result<Ran, RunError>
+    requires script { IsScript script.now }
+    requires built { are_built script.now ≡ true }
+    requires loaded { IsLoaded file.old loaded }
+    ensures ends { EndsRun true (loaded_width loaded) (bus_of loaded).lanes (record { before = K.taken out.old; after = K.taken out.new; faults_before = K.faults out.old; faults_after = K.faults out.new }) result }
+    ensures reports { AllLanes ShowsQry (bus_of loaded) → ReportsImage true (loaded_width loaded) script.now (bus_of loaded) (record { before = K.taken out.old; after = K.taken out.new; faults_before = K.faults out.old; faults_after = K.faults out.new }) file.new result }
+    ensures same { IsErr result → file.new ≡ file.old }
+    ensures later { K.faults out.old ≤ K.faults out.new }
+{
+    let (loaded, ran) = race_loaded(rt, alloc, loaded, script, gate, out);
+    match ran {
+        Ok(ran) => {
+            fill_image(&loaded, file);
+            Ok(ran)
+        }
+        Err(error) => Err(error),
+    }
+}

@@ -1,0 +1,131 @@
+//! A script that is raced, and its history put.
+ghost use Rattle.std.specs.Prelude.{◌≡◌, ◌≤◌, ◌<◌, List, length, slice_get, true, Some, None, IfOk, IfErr, Err};
+ghost use Rattle.nor_array.specs.Array.{ArrayState};
+ghost use Rattle.nor_array.specs.declared.entry.Entry.{Entry};
+ghost use Rattle.nor_bank.specs.Work.{CanCall, KeepsBank};
+ghost use Rattle.nor_bus.specs.Cycles.{KeepsLanes};
+ghost use Rattle.nor_bus.specs.Driven.{AllLanes};
+ghost use Rattle.nor_io.specs.Files.{Rose};
+ghost use Rattle.nor_io.specs.declared.sink.SinkError.TheVariants.{Fault};
+ghost use Rattle.nor_run.specs.Built.{are_built};
+ghost use Rattle.nor_run.specs.Running.{PutsReply, RunsLines, EndsLines, line_of_entry};
+ghost use Rattle.nor_run.specs.Scripts.{IsJustLoaded, ShowsQry, EndsRun, Reports};
+ghost use Rattle.nor_script.specs.Script.{IsScript};
+ghost use Rattle.nor_race.specs.Puts.{AreTold, HasHistory, PutsAll, PutsSome};
+ghost use Rattle.nor_race.specs.Teams.{CanRaceLines};
+
+use crate::gate::Gate;
+use crate::notes::Notes;
+use crate::race::{Raced, race_lines};
+use nor_array::Reply;
+use nor_bank::Bank;
+use nor_bus::{Bus, SimBank};
+use nor_cell::Chip;
+use nor_io::{Sink, SinkError};
+use nor_run::{Ran, RunError, of_put, put_end, put_reply, ran_on, start_bank};
+use nor_script::{Line, Script, Word};
+use nor_word::BusWord;
+use std::alloc::Global;
+use std::sync::Wait;
+use std::thread::Threads;
+
+// Puts the entry at position `k`, and gives its reply.
+fn put_note<K: Sink>(lines: &[Line], notes: &Notes, k: u64, out: &mut K) -> Result<Reply, SinkError>
+    requires history { HasHistory lines.now notes.now }
+    requires there { k < length notes.now }
+    ensures puts { (es : List Entry) (e : Entry) → AreTold lines.now notes.now es → slice_get es k ≡ Some e
+        → PutsReply (line_of_entry k e) e.reply (record { before = K.taken out.old; after = K.taken out.new; faults_before = K.faults out.old; faults_after = K.faults out.new }) result }
+    ensures fault { result ≡ Err Fault → Rose (K.faults out.old) (K.faults out.new) }
+    ensures later { K.faults out.old ≤ K.faults out.new }
+{
+    let note = notes.note(k);
+    let line = &lines[note.line as usize];
+    match &line.word {
+        Word::Call(op) => put_reply(out, k, line.caller, op, note.reply, &note.bytes),
+        Word::Erase { .. } => unreachable!(),
+    }
+}
+
+// Puts the entries, in the order of the history.
+fn put_notes<K: Sink>(lines: &[Line], notes: &Notes, out: &mut K) -> Result<Ran, SinkError>
+    requires history { HasHistory lines.now notes.now }
+    ensures whole { IfOk result (λ ran. (es : List Entry) → AreTold lines.now notes.now es → PutsAll es (K.taken out.old) (K.taken out.new) ran) }
+    ensures part { IfErr result (λ _. (es : List Entry) → AreTold lines.now notes.now es → PutsSome es (K.taken out.old) (K.taken out.new)) }
+    ensures fault { result ≡ Err Fault → Rose (K.faults out.old) (K.faults out.new) }
+    ensures later { K.faults out.old ≤ K.faults out.new }
+{
+    let mut ran = Ran {
+        entries: 0,
+        halted: false,
+    };
+    for k in 0..notes.count() {
+        let reply = put_note(lines, notes, k, out)?;
+        ran = ran_on(ran, reply);
+    }
+    Ok(ran)
+}
+
+// Races the lines for the bank, and puts their entries when all have ended, in the order of the history.
+fn race_and_put<
+    R: Threads + Wait + Sync,
+    W: BusWord + Send,
+    B: Bus<W> + Send,
+    G: Gate + Sync,
+    K: Sink,
+>(
+    rt: &R,
+    alloc: Global,
+    bank: Bank<W, B>,
+    script: &Script,
+    gate: &G,
+    out: &mut K,
+) -> (Bank<W, B>, Result<Ran, RunError>)
+    requires closed { bank.erase ≡ None }
+    requires lines { CanRaceLines script.now }
+    ensures runs { (a : ArrayState) → CanCall bank a → RunsLines true script.now bank result.0 a (record { before = K.taken out.old; after = K.taken out.new; faults_before = K.faults out.old; faults_after = K.faults out.new }) result.1 }
+    ensures ends { EndsLines true (record { before = K.taken out.old; after = K.taken out.new; faults_before = K.faults out.old; faults_after = K.faults out.new }) result.1 }
+    ensures keeps { KeepsBank bank result.0 }
+    ensures later { K.faults out.old ≤ K.faults out.new }
+{
+    match race_lines(rt, alloc, bank, script, gate) {
+        Ok(raced) => {
+            let Raced { bank, notes } = raced;
+            let ran = put_notes(script.lines(), &notes, out);
+            (bank, of_put(ran))
+        }
+        Err((bank, _)) => (bank, Err(RunError::NoMemory)),
+    }
+}
+
+/// Races a script for a bank that was just loaded, puts the report, and gives the bank back.
+pub fn race_bank<
+    R: Threads + Wait + Sync,
+    W: BusWord + Send,
+    C: Chip + Drop + Send,
+    G: Gate + Sync,
+    K: Sink,
+>(
+    rt: &R,
+    alloc: Global,
+    bank: SimBank<W, C>,
+    script: &Script,
+    gate: &G,
+    out: &mut K,
+) -> (SimBank<W, C>, Result<Ran, RunError>)
+    requires script { IsScript script.now }
+    requires built { are_built script.now ≡ true }
+    requires loaded { IsJustLoaded W.WIDTH bank }
+    ensures ends { EndsRun true W.WIDTH bank.lanes (record { before = K.taken out.old; after = K.taken out.new; faults_before = K.faults out.old; faults_after = K.faults out.new }) result.1 }
+    ensures reports { AllLanes ShowsQry bank → Reports true W.WIDTH script.now bank result.0 (record { before = K.taken out.old; after = K.taken out.new; faults_before = K.faults out.old; faults_after = K.faults out.new }) result.1 }
+    ensures lanes { KeepsLanes bank result.0 }
+    ensures later { K.faults out.old ≤ K.faults out.new }
+{
+    match start_bank(bank) {
+        Ok(bank) => {
+            let (bank, ran) = race_and_put(rt, alloc, bank, script, gate, out);
+            let ran = put_end(bank.bus(), ran, out);
+            (bank.stop(), ran)
+        }
+        Err((bank, error)) => (bank, Err(error)),
+    }
+}

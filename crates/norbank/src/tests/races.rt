@@ -1,0 +1,177 @@
+//! Races on banks in memory.
+use super::images::{changed, file_of, four_plain_amd, one_plain, one_x16, two_plain_x8};
+use super::words_of;
+use crate::program::norbank;
+use crate::quiet::quiet;
+use nor_io::{MemShelf, MemSink, Shelf};
+use nor_race::OpenGate;
+use std::alloc::Global;
+use std::sync::Wait;
+use std::test::Fail;
+use std::thread::Threads;
+
+// What a command ends with: its status, what it printed, and the bank afterwards.
+#[derive(PartialEq, Eq, Debug, Drop)]
+struct Ended {
+    code: u8,
+    printed: Vec<u8>,
+    bank: Vec<u8>,
+}
+
+// `race bank script` over these files, or `run`, and calls of the sink that fail by their numbers.
+fn ends<R: Threads + Wait + Sync>(
+    rt: &R,
+    alloc: Global,
+    verb: &str,
+    bank: &[u8],
+    script: &[u8],
+    fail_sink: &[u32],
+) -> Result<Ended, Fail> {
+    let mut shelf = MemShelf::new(alloc, &[])?;
+    shelf.hold("bank", bank)?;
+    shelf.hold("script", script)?;
+    let mut out = MemSink::new(alloc, fail_sink)?;
+    let words = words_of(alloc, &[verb, "bank", "script"])?;
+    let status = norbank(rt, alloc, &words, &mut shelf, &mut out, &OpenGate);
+    Ok(Ended {
+        code: status.code,
+        printed: out.taken().to_vec(alloc)?,
+        bank: shelf.load(alloc, "bank").unwrap_or(Vec::new(alloc)),
+    })
+}
+
+const ONE_CALLER: &[u8] =
+    b"1 program 0x3 0000\n1 read 0x2 4\n1 program 0x10 -\n# past the end\n1 read 0x1fff 2\n1 read 0x0 4097\n1 read 0x0 4000000000\n1 read 0x2000 0\n";
+
+#[test]
+fn a_race_of_one_caller_prints_what_a_run_prints(rt: HostRuntime) -> Result<(), Fail> {
+    let alloc = rt.alloc();
+    let banks = [
+        file_of(alloc, one_plain())?,
+        file_of(alloc, two_plain_x8())?,
+        file_of(alloc, four_plain_amd())?,
+    ];
+    for bank in &banks {
+        for script in [b"".as_slice(), ONE_CALLER] {
+            let ran = ends(&rt, alloc, "run", bank, script, &[])?;
+            let raced = ends(&rt, alloc, "race", bank, script, &[])?;
+            assert_eq!(rt; raced.code, 0);
+            assert!(rt; raced == ran);
+        }
+    }
+    Ok(())
+}
+
+// The lines of a report that are of one caller, without their positions.
+fn lines_of(alloc: Global, report: &[u8], caller: u8) -> Result<Vec<u8>, Fail> {
+    let mut lines = Vec::new(alloc);
+    for line in report.split(|byte| *byte == b'\n') {
+        let mut fields = line.splitn(2, |byte| *byte == b' ');
+        let _position = fields.next();
+        if let Some(rest) = fields.next() {
+            if rest.first() == Some(&caller) && rest.get(1) == Some(&b' ') {
+                lines.extend_from_slice(rest)?;
+                lines.push(b'\n')?;
+            }
+        }
+    }
+    Ok(lines)
+}
+
+// The cells of a bank's first lane begin at this place of its file.
+const CELLS: usize = 548;
+
+#[test]
+fn callers_race_each_in_its_own_order(rt: HostRuntime) -> Result<(), Fail> {
+    let alloc = rt.alloc();
+    let bank = file_of(alloc, one_plain())?;
+    let script =
+        b"2 program 0x4 00\n1 program 0x3 00\n2 read 0x4 1\n1 read 0x3 1\n8 read 0x2000 1\n";
+    let raced = ends(&rt, alloc, "race", &bank, script, &[])?;
+    assert_eq!(rt; raced.code, 0);
+    assert_eq!(rt;
+        lines_of(alloc, &raced.printed, b'1')?.as_slice(),
+        b"1 program 0x3 00 -> done\n1 read 0x3 1 -> 00\n".as_slice()
+    );
+    assert_eq!(rt;
+        lines_of(alloc, &raced.printed, b'2')?.as_slice(),
+        b"2 program 0x4 00 -> done\n2 read 0x4 1 -> 00\n".as_slice()
+    );
+    assert_eq!(rt;
+        lines_of(alloc, &raced.printed, b'8')?.as_slice(),
+        b"8 read 0x2000 1 -> out-of-range\n".as_slice()
+    );
+    assert!(rt;
+        raced
+            .printed
+            .ends_with(b"lane 0 suspends 0 erases 0\nhistory 5\n")
+    );
+    let saved = changed(
+        changed(file_of(alloc, one_plain())?, CELLS + 3, 0),
+        CELLS + 4,
+        0,
+    );
+    assert_eq!(rt; raced.bank.as_slice(), saved.as_slice());
+    Ok(())
+}
+
+#[test]
+fn what_no_race_has_is_told(rt: HostRuntime) -> Result<(), Fail> {
+    let alloc = rt.alloc();
+    let bank = file_of(alloc, one_plain())?;
+    let cases: [(&[u8], u8, &[u8]); 7] = [
+        (b"1 poll\n", 4, b"script: line 1: not here\n"),
+        (
+            b"1 read 0x0 1\n1 open 0\n",
+            4,
+            b"script: line 2: not here\n",
+        ),
+        (b"reboot\n", 4, b"script: line 1: not here\n"),
+        (
+            b"1 read 0x0 1\ncut 3 0xff\n",
+            4,
+            b"script: line 2: not here\n",
+        ),
+        (b"9 read 0x0 1\n", 4, b"script: line 1: caller\n"),
+        (b"cut 3 0xff\n", 11, b"not built\n"),
+        (b"1 erase 0\n", 11, b"not built\n"),
+    ];
+    for (script, code, printed) in cases {
+        let raced = ends(&rt, alloc, "race", &bank, script, &[])?;
+        assert_eq!(rt; raced.code, code);
+        assert_eq!(rt; raced.printed.as_slice(), printed);
+        assert_eq!(rt; raced.bank.as_slice(), bank.as_slice());
+    }
+    let locks = file_of(alloc, one_x16())?;
+    let raced = ends(&rt, alloc, "race", &locks, b"", &[])?;
+    assert_eq!(rt; raced.code, 11);
+    Ok(())
+}
+
+#[test]
+fn a_failing_output_saves_no_race(rt: HostRuntime) -> Result<(), Fail> {
+    let alloc = rt.alloc();
+    let bank = file_of(alloc, one_plain())?;
+    for call in 0..4u32 {
+        let raced = ends(&rt, alloc, "race", &bank, b"1 program 0x3 00\n", &[call])?;
+        assert_eq!(rt; raced.code, 7);
+        assert_eq!(rt; raced.bank.as_slice(), bank.as_slice());
+    }
+    Ok(())
+}
+
+#[test]
+fn words_of_a_race_are_no_form_of_a_quiet_command(rt: HostRuntime) -> Result<(), Fail> {
+    let alloc = rt.alloc();
+    let mut shelf = MemShelf::new(alloc, &[])?;
+    let mut out = MemSink::new(alloc, &[])?;
+    let words = words_of(alloc, &["race", "bank", "script"])?;
+    let status = quiet(alloc, &words, &mut shelf, &mut out);
+    assert_eq!(rt; status.code, 2);
+    assert!(rt; out.taken().starts_with(b"usage: "));
+    let mut out = MemSink::new(alloc, &[])?;
+    let status = norbank(&rt, alloc, &words, &mut shelf, &mut out, &OpenGate);
+    assert_eq!(rt; status.code, 8);
+    assert_eq!(rt; out.taken(), b"absent bank\n".as_slice());
+    Ok(())
+}
