@@ -4,7 +4,7 @@ ghost use Rattle.nor_cell.specs.Bits.{unit_len};
 ghost use Rattle.nor_cell.specs.Cells.{chip_of};
 ghost use Rattle.nor_cell.specs.Chip.{units};
 ghost use Rattle.nor_cell.specs.Look.{look};
-ghost use Rattle.nor_cell.specs.Power.{Cuts, powered};
+ghost use Rattle.nor_cell.specs.Power.{powered};
 ghost use Rattle.nor_cell.specs.Simulated.{LeavesBroken, CutsBy};
 ghost use Rattle.nor_cell.specs.Steps.{Reads, Keeps};
 
@@ -33,9 +33,10 @@ impl Model for Amd {
 }
 
 impl Amd {
-    /// A chip with these cells, as after power-on. It takes no memory.
+    /// A chip with these cells, as after power-on, which keeps their locks. It takes no memory.
     pub fn new(cells: Cells) -> Amd
-        ensures { result ≡ powered (chip_of Set.Amd cells) }
+        ensures powered { result ≡ powered (chip_of Set.Amd cells) }
+        ensures locks { result.locks ≡ cells.locks.items }
     {
         Amd {
             machine: Machine::new(Set::Amd, cells),
@@ -45,6 +46,8 @@ impl Amd {
 
 impl Chip for Amd {
     ghost state = { λ chip. chip };
+
+    ghost leaves = { CutsBy };
 
     fn read(&mut self, at: u32) -> u16
         requires { at < units self.old }
@@ -67,12 +70,7 @@ impl Chip for Amd {
         }
     }
 
-    fn cut(&mut self, mask: u8)
-        ensures step { Cuts self.old self.new }
-        ensures kept { Keeps self.old self.new }
-        // What is left of work under way.
-        ensures left { CutsBy mask self.old self.new }
-    {
+    fn cut(&mut self, mask: u8) {
         self.machine.cut(mask);
     }
 

@@ -1,12 +1,14 @@
 //! The command language: what a write does when no job runs.
 ghost use Rattle.std.specs.Prelude.{◌≡◌, ◌<◌, ◌%◌};
-ghost use Rattle.nor_cell.specs.Amd.{aborted, begin_program, begin_erase, array_steps, query_steps, abort_steps, fault_steps};
-ghost use Rattle.nor_cell.specs.Chip.{Array, Rest, U2, Idle, NoFault, BufferConfirm, units, block_of};
+ghost use Rattle.nor_cell.specs.Amd.{aborted, begin_program, begin_erase, begin_erase_all, array_steps, query_steps, abort_steps, fault_steps};
+ghost use Rattle.nor_cell.specs.Chip.{Array, Rest, U2, E3, Idle, NoFault, BufferConfirm, units, block_of};
 ghost use Rattle.nor_cell.specs.Machine.{load_of};
 
 use crate::addresses::{first_address, is_first_unlock, is_second_unlock, query_address};
 use crate::locks::locks_step;
-use nor_cell::{EraseTarget, Failure, Machine, NextStep, ShownMode, Work, has_locks};
+use nor_cell::{
+    EraseTarget, Failure, Machine, NextStep, Set, ShownMode, Work, chip_erase_of, has_locks,
+};
 
 /// The suspend code, which alone is taken while a job runs.
 pub(crate) const SUSPEND: u8 = 0xB0;
@@ -28,8 +30,10 @@ const ERASE_SETUP: u8 = 0x80;
 
 const SHOW_LOCKS: u8 = 0xE0;
 
-// The last cycles of an erase of a block, and of a buffer load.
+// The last cycles of an erase of a block, of one of all blocks, and of a buffer load.
 const ERASE_BLOCK: u8 = 0x30;
+
+const ERASE_ALL: u8 = 0x10;
 
 const PROGRAM_BUFFER: u8 = 0x29;
 
@@ -75,6 +79,31 @@ fn begin_erase(chip: &mut Machine, at: u32)
         chip.step = NextStep::Rest;
     } else {
         chip.start_erase(EraseTarget::OneBlock { block });
+    }
+}
+
+// All blocks are erased at once, unless one of them is locked.
+fn begin_erase_all(chip: &mut Machine)
+    ensures { chip.new ≡ begin_erase_all chip.old }
+{
+    if chip.is_any_locked() {
+        chip.step = NextStep::Rest;
+    } else {
+        chip.start_erase(EraseTarget::AllBlocks);
+    }
+}
+
+// The last cycle of an erase, by the code.
+fn last_of_erase(chip: &mut Machine, at: u32, code: u8)
+    requires { at < units chip.old }
+    ensures { chip.new ≡ array_steps E3 chip.old at code code }
+{
+    let takes_all = at == first_address(chip.cells.device)
+        && chip_erase_of(Set::Amd, &chip.cells.table);
+    match code {
+        ERASE_BLOCK => begin_erase(chip, at),
+        ERASE_ALL if takes_all => begin_erase_all(chip),
+        _ => chip.step = NextStep::Rest,
     }
 }
 
@@ -133,7 +162,7 @@ fn array_step(chip: &mut Machine, at: u32, value: u16)
         NextStep::Unlock2 => command(chip, at, code),
         NextStep::Erase1 if is_first_unlock(device, at, code) => chip.step = NextStep::Erase2,
         NextStep::Erase2 if is_second_unlock(device, at, code) => chip.step = NextStep::Erase3,
-        NextStep::Erase3 if code == ERASE_BLOCK => begin_erase(chip, at),
+        NextStep::Erase3 => last_of_erase(chip, at, code),
         NextStep::ProgramNext => {
             chip.load_unit(at, value);
             begin_program(chip, Work::Word, at);

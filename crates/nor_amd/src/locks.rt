@@ -1,6 +1,6 @@
 //! The mode that shows the locks of the blocks and sets them.
 ghost use Rattle.std.specs.Prelude.{◌≡◌, ◌<◌};
-ghost use Rattle.nor_cell.specs.Chip.{units};
+ghost use Rattle.nor_cell.specs.Chip.{Locks, units};
 ghost use Rattle.nor_cell.specs.Amd.{locks_steps};
 
 use nor_cell::{Machine, NextStep, ShownMode};
@@ -19,7 +19,8 @@ const CONFIRM_LEAVE: u8 = 0x00;
 
 /// A write of a code at a unit in this mode.
 pub(crate) fn locks_step(chip: &mut Machine, at: u32, code: u8)
-    requires { at < units chip.old }
+    requires unit { at < units chip.old }
+    requires mode { (chip.old).mode ≡ Locks }
     ensures { chip.new ≡ locks_steps (chip.old).step chip.old at code }
 {
     let block = chip.block_of(at);

@@ -1,14 +1,15 @@
 ghost use Rattle.std.specs.Prelude.{◌≡◌, ◌*◌, ◌<◌, ◌≤◌, IsTrue, IfOk, length};
 ghost use Rattle.nor_cell.specs.Chip.{units};
-ghost use Rattle.nor_cell.specs.Ranges.{are_blocks, is_ascending_below, begin_units};
+ghost use Rattle.nor_cell.specs.Ranges.{AreOffered, are_blocks, is_ascending_below, is_none_or_each, begin_units};
 
+mod all_blocks;
 mod boot;
 mod commands;
 mod faults;
 mod jobs;
 
 use crate::Amd;
-use nor_cell::{CellParts, Chip, Device, Span, make_cells, unit_len};
+use nor_cell::{CellParts, Chip, Device, Span, has_locks, make_cells, unit_len};
 use std::alloc::{AllocError, Global};
 use std::process::Abort;
 use std::test::Fail;
@@ -24,9 +25,11 @@ const TABLE: [u8; 49] = [
     0x02,
 ];
 
-// Where the table tells the interface, what may be done while an erase is suspended, and whether
-// there are locks.
+// Where the table tells the interface, the time of an erase of all blocks, what may be done while an
+// erase is suspended, and whether there are locks.
 const INTERFACE: usize = 0x28;
+
+const CHIP_TIME: u8 = 0x22;
 
 const SUSPEND_KIND: u8 = 0x37;
 
@@ -39,6 +42,8 @@ struct Setup {
     // A place of the table, and another byte there.
     other: Option<(u8, u8)>,
     has_blocks: bool,
+    // Whether its locks are given, all of them set.
+    locked: bool,
     weak: Option<u32>,
     stuck: bool,
     // Of suspends and of erases.
@@ -49,6 +54,7 @@ const PLAIN: Setup = Setup {
     device: Device::X16,
     other: None,
     has_blocks: true,
+    locked: false,
     weak: None,
     stuck: false,
     counted: 0,
@@ -128,12 +134,35 @@ fn table(setup: Setup) -> [u8; 512] {
     table
 }
 
+// A set lock for each block, or none given.
+fn locks(
+    rt: &impl Abort,
+    alloc: Global,
+    table: &[u8; 512],
+    blocks: &[Span],
+    locked: bool,
+) -> Result<Vec<bool>, AllocError>
+    ensures count { IfOk result (λ v. IsTrue (is_none_or_each (length blocks.now) (length v.items))) }
+    ensures offered { IfOk result (λ v. AreOffered table.now v.items) }
+{
+    if locked {
+        assert!(rt; has_locks(table));
+        let locks = vec![in alloc; true; blocks.len()]?;
+        Ok(locks)
+    } else {
+        Ok(Vec::new(alloc))
+    }
+}
+
 fn make_chip(rt: &impl Abort, alloc: Global, setup: Setup) -> Result<Amd, Fail> {
+    let table = table(setup);
+    let blocks = blocks(alloc, setup.has_blocks)?;
+    let locks = locks(rt, alloc, &table, &blocks, setup.locked)?;
     let cells = make_cells(
         alloc,
         CellParts {
             device: setup.device,
-            table: table(setup),
+            table,
             bytes: vec![in alloc; 0xFF; SIZE]?,
             weak: weak_places(rt, alloc, setup.device, setup.weak)?,
             stuck: setup.stuck,
@@ -142,7 +171,8 @@ fn make_chip(rt: &impl Abort, alloc: Global, setup: Setup) -> Result<Amd, Fail> 
             pace_suspend: 2,
             suspends: setup.counted,
             erases: setup.counted,
-            blocks: blocks(alloc, setup.has_blocks)?,
+            blocks,
+            locks,
         },
     )?;
     Ok(Amd::new(cells))
@@ -156,6 +186,8 @@ enum Cycle {
     // A unit's program begins, and the erase of a unit's block.
     Program(u32, u16),
     Erase(u32),
+    // The erase of all blocks begins.
+    EraseAll,
     // A read, and what it shows.
     Read(u32, u16),
     Cut(u8),
@@ -164,7 +196,7 @@ enum Cycle {
     Counted(u32, u32),
 }
 
-use Cycle::{Counted, Cut, Erase, PowerOn, Program, Read, Unlocked, Write};
+use Cycle::{Counted, Cut, Erase, EraseAll, PowerOn, Program, Read, Unlocked, Write};
 
 fn units_of(chip: &Amd) -> u32
     ensures { result ≡ units chip.now }
@@ -196,6 +228,10 @@ fn run(rt: &impl Abort, chip: &mut Amd, cycles: &[Cycle]) {
             Erase(at) => {
                 write_unlocked(rt, chip, 0x555, 0x80);
                 write_unlocked(rt, chip, *at, 0x30);
+            }
+            EraseAll => {
+                write_unlocked(rt, chip, 0x555, 0x80);
+                write_unlocked(rt, chip, 0x555, 0x10);
             }
             Read(at, want) => {
                 assert!(rt; *at < units_of(chip));

@@ -6,12 +6,13 @@ use Rattle.std.proofs.lemmas.Bool.{and_parts, and_from, or_cases, or_left, or_ri
 use Rattle.std.proofs.lemmas.List.{length-replicate}
 use Rattle.nor_cell.specs.Chip.{span_end}
 use Rattle.nor_cell.specs.declared.device.Span.{Span}
-use Rattle.nor_array.specs.Array.{ArrayState, range, meets, open_span, is_locked}
+use Rattle.nor_array.specs.Array.{ArrayState, range, meets, open_span, is_locked, lowest}
+use Rattle.nor_array.specs.Needs.{needs_of}
 use Rattle.nor_array.specs.Refusals.{refusal}
-use Rattle.nor_array.specs.Admits.{Answers, Unrefused, AsksChips, EndsUnlocked, HasItsCaller, needs_no_chip, first_locked, lowest, would_change, span_changes, program_breaks, erase_breaks}
+use Rattle.nor_array.specs.Admits.{Answers, Unrefused, AsksChips, EndsUnlocked, HasItsCaller, first_locked, would_change, span_changes, program_breaks, erase_breaks}
 use Rattle.nor_array.specs.Laws.{Admitted}
 use Rattle.nor_array.specs.declared.entry.Op.{Op}
-use Rattle.nor_array.specs.declared.entry.Op.TheVariants.{Read, Program, EraseOpen, Poll, Lock, Unlock, IsLocked, Arm, PowerOn}
+use Rattle.nor_array.specs.declared.entry.Op.TheVariants.{Read, Program, EraseOpen, EraseAll, Poll, Lock, Unlock, IsLocked, Arm, PowerOn}
 use Rattle.nor_array.specs.declared.entry.Reply.{Reply}
 use Rattle.nor_array.specs.declared.entry.Reply.TheVariants.{Done, Opened, Erased, Bit, Locked, Failed}
 use Rattle.nor_array.proofs.Edits.{all_old}
@@ -110,6 +111,10 @@ erase_told : (a : ArrayState) (b : ℕ) (locked : Option ℕ) → first_locked a
 erase_told a b (Some c) is = record { reply = Locked c; bytes = []; asks = known a (EraseOpen b) (Some c) (Locked c) [] is (refl, refl) }
 erase_told a b None is = record { reply = Opened; bytes = []; asks = known a (EraseOpen b) None Opened [] is (refl, refl) }
 
+all_told : (a : ArrayState) (locked : Option ℕ) → first_locked a EraseAll ≡ locked → Told a EraseAll
+all_told a (Some c) is = record { reply = Locked c; bytes = []; asks = known a EraseAll (Some c) (Locked c) [] is (refl, refl) }
+all_told a None is = record { reply = Opened; bytes = []; asks = known a EraseAll None Opened [] is (refl, refl) }
+
 poll_told : (a : ArrayState) (breaks : Bool) → erase_breaks a ≡ breaks → Told a Poll
 poll_told a false is = record { reply = Erased; bytes = []; asks = (is, refl) }
 poll_told a true is = record {
@@ -118,12 +123,13 @@ poll_told a true is = record {
   asks = (is, record { begins = refl; ends = refl; left = record { size = length-replicate {A = ℕ} (open_span a).len 0xFF; values = AreBytes-ones (open_span a).len } });
 }
 
-told : (a : ArrayState) (op : Op) → needs_no_chip op ≡ false → Told a op
+told : (a : ArrayState) (op : Op) → (needs_of op).idle ≡ false → Told a op
 told a (Read at len) needs = record { reply = Done; bytes = range a.bytes at len; asks = (refl, refl) }
 told a (Program at new) needs =
     let apart = eqb-false (length new) 0 needs in
     program_told a at new (first_locked a (Program at new)) (program_breaks a at new) (omega arith) refl refl
 told a (EraseOpen b) needs = erase_told a b (first_locked a (EraseOpen b)) refl
+told a EraseAll needs = all_told a (first_locked a EraseAll) refl
 told a Poll needs = poll_told a (erase_breaks a) refl
 told a (Lock b) needs = record { reply = Done; bytes = []; asks = (refl, refl) }
 told a (Unlock b) needs = record { reply = Done; bytes = []; asks = (refl, refl) }
@@ -137,7 +143,7 @@ record Entered (a : ArrayState) (caller : ℕ) (op : Op) (refused : Option Reply
   bytes : List ℕ
   answers : Answers refused (record { caller = caller; op = op; reply = reply; bytes = bytes }) a
 
-free_entry : (a : ArrayState) (caller : ℕ) (op : Op) (needs_none : Bool) → needs_no_chip op ≡ needs_none → Entered a caller op None
+free_entry : (a : ArrayState) (caller : ℕ) (op : Op) (needs_none : Bool) → (needs_of op).idle ≡ needs_none → Entered a caller op None
 free_entry a caller op true is = record {
   reply = Done;
   bytes = [];
@@ -153,7 +159,7 @@ free_entry a caller op false is =
 
 entered : (a : ArrayState) (caller : ℕ) (op : Op) (refused : Option Reply) → Entered a caller op refused
 entered a caller op (Some reply) = record { reply = reply; bytes = []; answers = (refl, refl) }
-entered a caller op None = free_entry a caller op (needs_no_chip op) refl
+entered a caller op None = free_entry a caller op (needs_of op).idle refl
 
 pub some_answer : (a : ArrayState) (caller : ℕ) (op : Op) → HasItsCaller op caller → Admitted a caller op
 some_answer a caller op has =

@@ -1,36 +1,53 @@
 -- What holds of every plain array, and goes on to hold.
-use Rattle.std.proofs.Common.{◌≡◌, ◌<◌, ◌≤◌, ◌+◌, ℕ, List, ◌++◌, length, take, drop, refl, sym, subst, ap, arith, ◌∙◌, true, Option, Some, None}
+use Rattle.std.proofs.Common.{◌≡◌, ◌≤◌, ◌+◌, ℕ, List, [], ◌∷◌, ◌++◌, length, take, drop, refl, sym, subst, ap, arith, ◌∙◌, true, Option, Some, None}
 use Rattle.std.specs.Prelude.{IsTrue}
+use Rattle.std.proofs.lemmas.Bool.{eqb-true}
 use Rattle.std.specs.Option.{ForSome}
 use Rattle.std.proofs.Math.Seq.{take-append_seam}
 use Rattle.nor_cell.specs.Bits.{AreBytes}
-use Rattle.nor_cell.specs.Chip.{span_end, no_span}
+use Rattle.nor_cell.specs.Chip.{span_end, no_span, covered, blocks_end, AllBlocks as AllOfChip}
 use Rattle.nor_cell.specs.Ranges.{follow_to}
 use Rattle.nor_cell.specs.declared.device.Span.{Span}
-use Rattle.nor_cell.proofs.Spans.{ends_between}
-use Rattle.nor_array.specs.Array.{Constants, ArrayState, IsArray, lie_within, erase_span, open_span, span_of, put, range}
+use Rattle.nor_cell.proofs.Spans.{ends_between, blocks_end_is}
+use Rattle.nor_array.specs.Array.{Constants, ArrayState, IsArray, lie_within, IsThere, chip_target, erase_span, open_span, put, range}
 use Rattle.nor_array.specs.After.{all_and, programmed}
 use Rattle.nor_array.proofs.Puts.{length-put, AreBytes-put, length-programming, AreBytes-all_and, AreBytes-range}
 use Rattle.nor_array.specs.declared.state.OpenErase.{OpenErase}
+use Rattle.nor_array.specs.declared.state.Target.{Target}
+use Rattle.nor_array.specs.declared.state.Target.TheVariants.{OneBlock, AllBlocks}
 
--- the block under erase lies in the bytes
+-- blocks that follow each other to the end cover all
+pub all_covered : (size : ℕ) (blocks : List Span) → follow_to size 0 blocks ≡ true → blocks_end blocks ≡ size
+all_covered size [] follow = eqb-true 0 size follow
+all_covered size (span ∷ blocks) follow = blocks_end_is size (span ∷ blocks) follow refl
+
+pub all_of : (size : ℕ) (blocks seen : List Span) → IsTrue (follow_to size 0 blocks) → blocks ≡ seen → record { from = 0; len = size } ≡ covered AllOfChip seen
+all_of size blocks seen follow same =
+    let to : ℕ → Span = λ n. record { from = 0; len = n } in
+    ap to (sym (all_covered size blocks follow) ∙ ap blocks_end same)
+
+-- what is under erase lies in the bytes
+target_inside : (target : Target) (size : ℕ) (blocks : List Span) → follow_to size 0 blocks ≡ true → IsThere target blocks → span_end (covered (chip_target target) blocks) ≤ size
+target_inside (OneBlock b) size blocks follow there = (ends_between size 0 blocks b no_span follow there).1
+target_inside AllBlocks size blocks follow there = let end = all_covered size blocks follow in omega arith
+
 erase_inside : (under : Option OpenErase) (consts : Constants) (size : ℕ) → follow_to size 0 consts.blocks ≡ true
-    → ForSome under (λ open_erase. open_erase.block < length consts.blocks) → span_end (erase_span under consts) ≤ size
+    → ForSome under (λ open_erase. IsThere open_erase.target consts.blocks) → span_end (erase_span under consts) ≤ size
 erase_inside None consts size follow there = omega arith
-erase_inside (Some open_erase) consts size follow there = (ends_between size 0 consts.blocks open_erase.block no_span follow (there open_erase refl)).1
+erase_inside (Some open_erase) consts size follow there = target_inside open_erase.target size consts.blocks follow (there open_erase refl)
 
 pub open_inside : (a : ArrayState) → IsArray a → span_end (open_span a) ≤ length a.bytes
 open_inside a is = erase_inside a.under a.consts (length a.bytes) is.blocks is.under
 
--- the same of the block that is named
-pub block_inside : (a seen : ArrayState) (open_erase : OpenErase) (span : Span) → IsArray a → a ≡ seen → a.under ≡ Some open_erase
-    → span ≡ span_of seen open_erase.block → span_end span ≤ length seen.bytes
-block_inside a seen open_erase span is same here of =
-    let block_is : span_of a open_erase.block ≡ span = ap (λ s. span_of s open_erase.block) same ∙ sym of in
-    let ends : span_end (span_of a open_erase.block) ≤ length a.bytes = (ends_between (length a.bytes) 0 a.consts.blocks open_erase.block no_span is.blocks (is.under open_erase here)).1 in
-    let many : length a.bytes ≡ length seen.bytes = ap (λ s. length s.bytes) same in
-    let last : span_end (span_of a open_erase.block) ≡ span_end span = ap span_end block_is in
-    omega arith
+-- the same of what is named
+pub named_inside : (a seen : ArrayState) (open_erase : OpenErase) (span : Span) → IsArray a → a ≡ seen → a.under ≡ Some open_erase
+    → span ≡ covered (chip_target open_erase.target) seen.consts.blocks → span_end span ≤ length seen.bytes
+named_inside a seen open_erase span is same here of =
+    let ends : span_end (covered (chip_target open_erase.target) a.consts.blocks) ≤ length a.bytes =
+    target_inside open_erase.target (length a.bytes) a.consts.blocks is.blocks (is.under open_erase here) in
+    let P : ArrayState → Type 0 = λ s. span_end (covered (chip_target open_erase.target) s.consts.blocks) ≤ length s.bytes in
+    let Q : Span → Type 0 = λ s. span_end s ≤ length seen.bytes in
+    subst Q (sym of) (subst P same ends)
 
 -- other bytes, as many, make an array too
 pub with_bytes : (a : ArrayState) (xs : List ℕ) → IsArray a → length xs ≡ length a.bytes → AreBytes xs → IsArray (record a { bytes = xs })
@@ -38,6 +55,7 @@ with_bytes a xs is same are = record {
   bytes = are;
   blocks = let P : ℕ → Type 0 = λ n. IsTrue (follow_to n 0 a.consts.blocks) in subst P (sym same) is.blocks;
   weak = let P : ℕ → Type 0 = λ n. IsTrue (lie_within n a.consts.weak) in subst P (sym same) is.weak;
+  locked = is.locked;
   locks = is.locks;
   under = is.under;
 }

@@ -1,22 +1,24 @@
 -- What each reply changes of an array, and what it leaves.
 use Rattle.std.proofs.Common.{◌≡◌, ◌<◌, ◌≤◌, ◌+◌, ◌-◌, ℕ, List, length, take, drop, replicate, refl, sym, subst, ap, arith, ◌∙◌, Bool, true, false, Option, Some, None}
-use Rattle.std.specs.Prelude.{◌&&◌, ◌||◌, nat_le, nat_lt, IsTrue}
+use Rattle.std.specs.Prelude.{◌==◌, ◌&&◌, ◌||◌, nat_le, nat_lt, not, if◌then◌else◌, slice_index_or, IsTrue}
 use Rattle.std.specs.Option.{ForSome}
 use Rattle.std.proofs.lemmas.Bool.{and_from, or_left, le-leb, lt-ltb, leb-false, ltb-false, eqb-false, or_right}
 use Rattle.std.proofs.lemmas.Option.{none-some, same_Some}
-use Rattle.std.proofs.Math.Seq.{take-length}
 use Rattle.std.proofs.lemmas.List.{length-set, length-replicate, get_or-set_other, length-take-le}
 use Rattle.nor_cell.specs.Chip.{is_within, span_end}
 use Rattle.nor_cell.specs.Ranges.{follow_to}
-use Rattle.nor_array.specs.Array.{ArrayState, IsArray, Constants, lie_within, open_span, put, range, is_locked, is_on}
-use Rattle.nor_array.specs.After.{after, after_reply, after_done, after_opened, after_erased, after_failed, after_halted, halted_bytes, closed, programmed, all_and}
+use Rattle.nor_array.specs.Array.{ArrayState, IsArray, IsThere, Constants, lie_within, open_span, put, range, is_locked, is_on}
+use Rattle.nor_array.specs.After.{after, after_reply, after_done, after_opened, after_erased, after_failed, after_halted, left_by, names_locked, with_lock, closed, programmed, all_and}
+use Rattle.nor_array.specs.Needs.{needs_of}
+use Rattle.nor_array.specs.declared.state.OpenErase.{OpenErase}
+use Rattle.nor_array.specs.declared.state.Target.TheVariants.{OneBlock, AllBlocks}
 use Rattle.nor_array.specs.Refusals.{is_outside}
 use Rattle.nor_array.specs.Admits.{Admits, AreUncertain, AllBetween, ProgramLeaves, HaltLeaves, FailsWithin, first_locked}
-use Rattle.nor_array.specs.Laws.{KeepsTheRest, may_change, may_relock, programs_at, names_under, names_power, names_armed}
+use Rattle.nor_array.specs.Laws.{KeepsTheRest, may_change, may_relock, is_of_lock, programs_at, names_under, names_power, names_armed}
 use Rattle.nor_array.specs.declared.state.Power.{Power}
 use Rattle.nor_array.specs.declared.state.Power.TheVariants.{On, Off, Stuck}
 use Rattle.nor_array.specs.declared.entry.Op.{Op}
-use Rattle.nor_array.specs.declared.entry.Op.TheVariants.{Program, EraseOpen, Poll, Lock, Unlock, Arm, PowerOn}
+use Rattle.nor_array.specs.declared.entry.Op.TheVariants.{Program, EraseOpen, EraseAll, Poll, Lock, Unlock, Arm, PowerOn}
 use Rattle.nor_array.specs.declared.entry.Reply.{Reply}
 use Rattle.nor_array.specs.declared.entry.Reply.TheVariants.{Done, Opened, Erased, Failed, Halted as HaltedReply}
 use Rattle.nor_array.specs.declared.entry.Halted.{Halted}
@@ -31,7 +33,7 @@ pub record Changes (named erased relocked : ℕ → Bool) (a b : ArrayState) : T
   pub edits : Edits named erased a.bytes b.bytes
   pub lock_count : length b.locks ≡ length a.locks
   pub locks : (n : ℕ) → relocked n ≡ false → is_locked b n ≡ is_locked a n
-  pub under : ForSome b.under (λ open_erase. open_erase.block < length a.consts.blocks)
+  pub under : ForSome b.under (λ open_erase. IsThere open_erase.target a.consts.blocks)
 
 -- an array that changes so is one again
 pub changed_array : (named erased relocked : ℕ → Bool) (a b : ArrayState) → IsArray a → Changes named erased relocked a b → IsArray b
@@ -43,15 +45,18 @@ changed_array named erased relocked a b is changes = record {
   weak =
       let P : ℕ → Constants → Type 0 = λ n consts. IsTrue (lie_within n consts.weak) in
       subst (P (length b.bytes)) (sym changes.consts) (let Q : ℕ → Type 0 = λ n. P n a.consts in subst Q (sym changes.edits.size) is.weak);
+  locked =
+      let P : Constants → Type 0 = λ consts. length consts.locked ≡ length consts.blocks in
+      subst P (sym changes.consts) is.locked;
   locks =
       let P : Constants → Type 0 = λ consts. length b.locks ≡ length consts.blocks in
       subst P (sym changes.consts) (changes.lock_count ∙ is.locks);
   under =
-      let P : Constants → Type 0 = λ consts. ForSome b.under (λ open_erase. open_erase.block < length consts.blocks) in
+      let P : Constants → Type 0 = λ consts. ForSome b.under (λ open_erase. IsThere open_erase.target consts.blocks) in
       subst P (sym changes.consts) changes.under;
 }
 
--- the block under erase, power and the armed cut stay where the reply doesn't name them
+-- the erase under way, power and the armed cut stay where the reply doesn't name them
 record MarksStay (reply : Reply) (op : Op) (a b : ArrayState) : Type 0 where
   under : names_under reply op a ≡ false → b.under ≡ a.under
   power : names_power reply op a ≡ false → b.power ≡ a.power
@@ -64,6 +69,7 @@ done_marks op a = record { under = λ not. refl; power = λ not. refl; armed = �
 
 opened_marks : (op : Op) (caller : ℕ) (a : ArrayState) → MarksStay Opened op a (after_opened op caller a)
 opened_marks (EraseOpen b) caller a = record { under = λ not. absurd (let no : true ≡ false = not in cc); power = λ not. refl; armed = λ not. refl }
+opened_marks EraseAll caller a = record { under = λ not. absurd (let no : true ≡ false = not in cc); power = λ not. refl; armed = λ not. refl }
 opened_marks op caller a = record { under = λ not. refl; power = λ not. refl; armed = λ not. refl }
 
 erased_marks : (op : Op) (a : ArrayState) → MarksStay Erased op a (after_erased op a)
@@ -74,10 +80,23 @@ failed_marks : (op : Op) (from to lanes : ℕ) (bytes : List ℕ) (a : ArrayStat
 failed_marks Poll from to lanes bytes a = record { under = λ not. absurd (let no : true ≡ false = not in cc); power = λ not. refl; armed = λ not. refl }
 failed_marks op from to lanes bytes a = record { under = λ not. refl; power = λ not. refl; armed = λ not. refl }
 
+-- what is left of a call's own work is bytes or a lock
+record Beside (a b : ArrayState) : Type 0 where
+  consts : b.consts ≡ a.consts
+  under : b.under ≡ a.under
+  armed : b.armed ≡ a.armed
+
+left_beside : (op : Op) (left : List ℕ) (a : ArrayState) → Beside a (left_by op left a)
+left_beside (Program at new) left a = record { consts = refl; under = refl; armed = refl }
+left_beside (Lock b) left a = record { consts = refl; under = refl; armed = refl }
+left_beside (Unlock b) left a = record { consts = refl; under = refl; armed = refl }
+left_beside op left a = record { consts = refl; under = refl; armed = refl }
+
 halted_marks : (power : Power) (cause : Halted) (op : Op) (bytes : List ℕ) (a : ArrayState) → a.power ≡ power → MarksStay (HaltedReply cause) op a (after_halted power cause op bytes a)
 halted_marks On cause op bytes a on =
     let is : is_on a.power ≡ true = ap is_on on in
-    record { under = λ not. absurd (let no : true ≡ false = sym is ∙ not in cc); power = λ not. absurd (let no : true ≡ false = sym is ∙ not in cc); armed = λ not. refl }
+    let beside = left_beside op (drop (open_span a).len bytes) (closed (take (open_span a).len bytes) a) in
+    record { under = λ not. absurd (let no : true ≡ false = sym is ∙ not in cc); power = λ not. absurd (let no : true ≡ false = sym is ∙ not in cc); armed = λ not. beside.armed }
 halted_marks Off cause op bytes a on = record { under = λ not. refl; power = λ not. refl; armed = λ not. refl }
 halted_marks (Stuck lane) cause op bytes a on = record { under = λ not. refl; power = λ not. refl; armed = λ not. refl }
 
@@ -89,6 +108,17 @@ marks_stay (Failed from to lanes) e a = failed_marks e.op from to lanes e.bytes 
 marks_stay (HaltedReply cause) e a = halted_marks a.power cause e.op e.bytes a refl
 marks_stay reply e a = record { under = λ not. refl; power = λ not. refl; armed = λ not. refl }
 
+-- power-on leaves as many locks, and these as they are where they are kept
+powered_count : (consts : Constants) (keeps : Bool) (locks : List Bool) → length locks ≡ length consts.blocks
+    → length (if keeps then locks else replicate (length consts.blocks) consts.has_locks) ≡ length locks
+powered_count consts true locks many = refl
+powered_count consts false locks many = length-replicate (length consts.blocks) consts.has_locks ∙ sym many
+
+powered_kept : (consts : Constants) (keeps : Bool) (locks : List Bool) (n : ℕ) → not keeps ≡ false
+    → slice_index_or (if keeps then locks else replicate (length consts.blocks) consts.has_locks) n false ≡ slice_index_or locks n false
+powered_kept consts true locks n kept = refl
+powered_kept consts false locks n kept = absurd (let no : true ≡ false = kept in cc)
+
 module _ (a : ArrayState) (is : IsArray a) where
   -- nothing changes
   pub stays : (named erased relocked : ℕ → Bool) → Changes named erased relocked a a
@@ -98,7 +128,11 @@ module _ (a : ArrayState) (is : IsArray a) where
   in_range : (at len p : ℕ) → at ≤ p → p < at + len → (nat_le at p && nat_lt p (at + len)) ≡ true
   in_range at len p from high = and_from _ _ (le-leb at p from) (lt-ltb p (at + len) high)
 
-  done_changes : (erased : ℕ → Bool) (op : Op) → is_outside a op ≡ false → Changes (may_change Done op a) erased (may_relock Done op) a (after_done op a)
+  -- a lock that the call isn't of
+  one_lock : (b n : ℕ) (locked : Bool) → (b == n) ≡ false → is_locked (with_lock b locked a) n ≡ is_locked a n
+  one_lock b n locked not = get_or-set_other a.locks b n locked false (let apart = eqb-false b n not in λ same. apart (sym same))
+
+  done_changes : (erased : ℕ → Bool) (op : Op) → is_outside a (needs_of op).reach ≡ false → Changes (may_change Done op a) erased (may_relock Done op a) a (after_done op a)
   done_changes erased (Program at new) inside = record {
     consts = refl;
     edits = program_edit (may_change Done (Program at new) a) erased a.bytes at new (ltb-false (length a.bytes) (at + length new) inside) is.bytes (in_range at (length new));
@@ -110,40 +144,48 @@ module _ (a : ArrayState) (is : IsArray a) where
     consts = refl;
     edits = no_edit (may_change Done (Lock b) a) erased a.bytes is.bytes;
     lock_count = length-set a.locks b true;
-    locks = λ n not. get_or-set_other a.locks b n true false (let apart = eqb-false b n not in λ same. apart (sym same));
+    locks = λ n not. one_lock b n true not;
     under = is.under;
   }
   done_changes erased (Unlock b) inside = record {
     consts = refl;
     edits = no_edit (may_change Done (Unlock b) a) erased a.bytes is.bytes;
     lock_count = length-set a.locks b false;
-    locks = λ n not. get_or-set_other a.locks b n false false (let apart = eqb-false b n not in λ same. apart (sym same));
+    locks = λ n not. one_lock b n false not;
     under = is.under;
   }
   done_changes erased PowerOn inside = record {
     consts = refl;
     edits = no_edit (may_change Done PowerOn a) erased a.bytes is.bytes;
-    lock_count = length-replicate (length a.consts.blocks) a.consts.locked ∙ sym is.locks;
-    locks = λ n not. absurd (let no : true ≡ false = not in cc);
+    lock_count = powered_count a.consts a.consts.keeps a.locks is.locks;
+    locks = λ n not. powered_kept a.consts a.consts.keeps a.locks n not;
     under = λ open_erase here. absurd (none-some open_erase here);
   }
   done_changes erased (Arm cut mask) inside = record { consts = refl; edits = no_edit (may_change Done (Arm cut mask) a) erased a.bytes is.bytes; lock_count = refl; locks = λ n not. refl; under = is.under }
-  done_changes erased op inside = stays (may_change Done op a) erased (may_relock Done op)
+  done_changes erased op inside = stays (may_change Done op a) erased (may_relock Done op a)
 
-  opened_changes : (named erased relocked : ℕ → Bool) (op : Op) (caller : ℕ) → is_outside a op ≡ false → Changes named erased relocked a (after_opened op caller a)
+  opened_changes : (named erased relocked : ℕ → Bool) (op : Op) (caller : ℕ) → is_outside a (needs_of op).reach ≡ false → Changes named erased relocked a (after_opened op caller a)
   opened_changes named erased relocked (EraseOpen b) caller inside = record {
     consts = refl;
     edits = no_edit named erased a.bytes is.bytes;
     lock_count = refl;
     locks = λ n not. refl;
     under = λ open_erase here.
-        let same : b ≡ open_erase.block = ap (λ o. o.block) (same_Some (record { block = b; caller = caller }) open_erase here) in
-        let low : b < length a.consts.blocks = leb-false (length a.consts.blocks) b inside in
-        omega arith;
+        let P : OpenErase → Type 0 = λ o. IsThere o.target a.consts.blocks in
+        subst P (same_Some (record { target = OneBlock b; caller = caller }) open_erase here) (leb-false (length a.consts.blocks) b inside);
+  }
+  opened_changes named erased relocked EraseAll caller inside = record {
+    consts = refl;
+    edits = no_edit named erased a.bytes is.bytes;
+    lock_count = refl;
+    locks = λ n not. refl;
+    under = λ open_erase here.
+        let P : OpenErase → Type 0 = λ o. IsThere o.target a.consts.blocks in
+        subst P (same_Some (record { target = AllBlocks; caller = caller }) open_erase here) tt;
   }
   opened_changes named erased relocked op caller inside = stays named erased relocked
 
-  -- the block under erase gets bytes
+  -- what is under erase gets bytes
   in_block : (p : ℕ) (bytes : List ℕ) → length bytes ≡ (open_span a).len → (open_span a).from ≤ p → p < (open_span a).from + length bytes → is_within (open_span a) p ≡ true
   in_block p bytes many from high =
       let low : p < span_end (open_span a) = omega arith in
@@ -190,7 +232,7 @@ module _ (a : ArrayState) (is : IsArray a) where
       (omega arith) fails.between (λ p low high. names p (omega arith) (omega arith))
       (λ p low high not. put_above a.bytes at stored stored_fits p (omega arith))
 
-  failed_changes : (relocked : ℕ → Bool) (op : Op) (from to lanes : ℕ) (bytes : List ℕ) → is_outside a op ≡ false → FailureFits op a from to bytes
+  failed_changes : (relocked : ℕ → Bool) (op : Op) (from to lanes : ℕ) (bytes : List ℕ) → is_outside a (needs_of op).reach ≡ false → FailureFits op a from to bytes
       → Changes (may_change (Failed from to lanes) op a) (is_within (open_span a)) relocked a (after_failed op from bytes a)
   failed_changes relocked (Program at new) from to lanes bytes inside fails = record {
     consts = refl;
@@ -211,67 +253,86 @@ module _ (a : ArrayState) (is : IsArray a) where
   leaves_between None old new bytes leaves = leaves
   leaves_between (Some b) old new bytes leaves = let P : List ℕ → Type 0 = λ xs. AllBetween old new xs in subst P (sym leaves) (all_old old new)
 
-  taken : (n : ℕ) (bytes : List ℕ) → AreUncertain n bytes → AreUncertain n (take n bytes)
-  taken n bytes are =
-      let whole : take n bytes ≡ bytes = rw (sym are.size) (take-length bytes) in
-      let P : List ℕ → Type 0 = λ xs. AreUncertain n xs in subst P (sym whole) are
+  closes : (op : Op) (bytes : List ℕ) → AreUncertain (open_span a).len (take (open_span a).len bytes)
+      → Edits (halt_named op) (is_within (open_span a)) a.bytes (closed (take (open_span a).len bytes) a).bytes
+  closes op bytes are = block_edit (halt_named op) (take (open_span a).len bytes) are (λ p within. or_right (programs_at op p) (is_within (open_span a) p) within)
 
-  closes : (op : Op) (bytes : List ℕ) → AreUncertain (open_span a).len bytes
-      → Edits (halt_named op) (is_within (open_span a)) a.bytes (put a.bytes (open_span a).from (take (open_span a).len bytes))
-  closes op bytes are = block_edit (halt_named op) (take (open_span a).len bytes) (taken (open_span a).len bytes are) (λ p within. or_right (programs_at op p) (is_within (open_span a) p) within)
-
-  halted_edit : (op : Op) (bytes : List ℕ) → is_outside a op ≡ false → HaltLeaves op a bytes
-      → Edits (halt_named op) (is_within (open_span a)) a.bytes (halted_bytes op (drop (open_span a).len bytes) (put a.bytes (open_span a).from (take (open_span a).len bytes)))
-  halted_edit (Program at new) bytes inside leaves =
+  halted_edit : (cause : Halted) (op : Op) (bytes : List ℕ) → is_outside a (needs_of op).reach ≡ false → HaltLeaves cause op a bytes
+      → Edits (halt_named op) (is_within (open_span a)) a.bytes (left_by op (drop (open_span a).len bytes) (closed (take (open_span a).len bytes) a)).bytes
+  halted_edit cause (Program at new) bytes inside leaves =
       let n = (open_span a).len in
       let within : ℕ → Bool = is_within (open_span a) in
       let narrow = block_edit within (take n bytes) leaves.0 (λ p here. here) in
       between_edit (halt_named (Program at new)) within a.bytes (put a.bytes (open_span a).from (take n bytes)) at (length new) new (drop n bytes) is.bytes
-      (block_edit (halt_named (Program at new)) (take n bytes) leaves.0 (λ p here. or_right (programs_at (Program at new) p) (within p) here))
+      (closes (Program at new) bytes leaves.0)
       (ltb-false (length a.bytes) (at + length new) inside)
       (leaves_between (first_locked a (Program at new)) (range a.bytes at (length new)) new (drop n bytes) leaves.1)
       (λ p from high. or_left (programs_at (Program at new) p) (within p) (in_range at (length new) p from high))
       (λ p from high not. narrow.kept p not)
-  halted_edit op bytes inside leaves = closes op bytes leaves
+  halted_edit cause (Lock b) bytes inside leaves = closes (Lock b) bytes leaves.0
+  halted_edit cause (Unlock b) bytes inside leaves = closes (Unlock b) bytes leaves.0
+  halted_edit cause op bytes inside leaves = closes op bytes leaves.0
+
+  -- the locks that a halt leaves, of as many blocks, and those of other blocks as they are
+  record LocksLeft (op : Op) (left : List ℕ) : Type 0 where
+    count : length (left_by op left a).locks ≡ length a.locks
+    others : (n : ℕ) → is_of_lock op n ≡ false → is_locked (left_by op left a) n ≡ is_locked a n
+
+  locks_left : (op : Op) (left : List ℕ) → LocksLeft op left
+  locks_left (Lock b) left = record { count = length-set a.locks b (names_locked left); others = λ n not. one_lock b n (names_locked left) not }
+  locks_left (Unlock b) left = record { count = length-set a.locks b (names_locked left); others = λ n not. one_lock b n (names_locked left) not }
+  locks_left op left = record { count = refl; others = λ n not. refl }
+
+  -- what closes and what is left change different things
+  closed_locks : (op : Op) (left bytes : List ℕ) → (left_by op left (closed bytes a)).locks ≡ (left_by op left a).locks
+  closed_locks (Program at new) left bytes = refl
+  closed_locks (Lock b) left bytes = refl
+  closed_locks (Unlock b) left bytes = refl
+  closed_locks op left bytes = refl
 
   -- power is on, so the places are those that the reply names
   on_named : (on named : Bool) → on ≡ true → (on && named) ≡ false → named ≡ false
   on_named true named is_on_now not = not
   on_named false named is_on_now not = absurd (let no : true ≡ false = sym is_on_now in cc)
 
-  halted_changes : (power : Power) (relocked : ℕ → Bool) (cause : Halted) (op : Op) (bytes : List ℕ) → a.power ≡ power
-      → (power ≡ On → HaltLeaves op a bytes × (is_outside a op ≡ false))
-      → Changes (may_change (HaltedReply cause) op a) (is_within (open_span a)) relocked a (after_halted power cause op bytes a)
-  halted_changes On relocked cause op bytes on facts = record {
-    consts = refl;
-    edits = edit_named (halt_named op) (may_change (HaltedReply cause) op a) (is_within (open_span a)) a.bytes
-        (halted_bytes op (drop (open_span a).len bytes) (put a.bytes (open_span a).from (take (open_span a).len bytes)))
-        (λ p not. on_named (is_on a.power) (halt_named op p) (ap is_on on) not)
-        (halted_edit op bytes (facts refl).1 (facts refl).0);
-    lock_count = refl;
-    locks = λ n not. refl;
-    under = λ open_erase here. absurd (none-some open_erase here);
-  }
-  halted_changes Off relocked cause op bytes on facts = stays (may_change (HaltedReply cause) op a) (is_within (open_span a)) relocked
-  halted_changes (Stuck lane) relocked cause op bytes on facts = stays (may_change (HaltedReply cause) op a) (is_within (open_span a)) relocked
+  halted_changes : (power : Power) (cause : Halted) (op : Op) (bytes : List ℕ) → a.power ≡ power
+      → (power ≡ On → HaltLeaves cause op a bytes × (is_outside a (needs_of op).reach ≡ false))
+      → Changes (may_change (HaltedReply cause) op a) (is_within (open_span a)) (may_relock (HaltedReply cause) op a) a (after_halted power cause op bytes a)
+  halted_changes On cause op bytes on facts =
+      let left = drop (open_span a).len bytes in
+      let block = take (open_span a).len bytes in
+      let locks = locks_left op left in
+      let same_locks = closed_locks op left block in
+      let beside = left_beside op left (closed block a) in
+      record {
+        consts = beside.consts;
+        edits = edit_named (halt_named op) (may_change (HaltedReply cause) op a) (is_within (open_span a)) a.bytes (left_by op left (closed block a)).bytes
+            (λ p not. on_named (is_on a.power) (halt_named op p) (ap is_on on) not)
+            (halted_edit cause op bytes (facts refl).1 (facts refl).0);
+        lock_count = ap length same_locks ∙ locks.count;
+        locks = λ n not. ap (λ (xs : List Bool). slice_index_or xs n false) same_locks ∙ locks.others n (on_named (is_on a.power) (is_of_lock op n) (ap is_on on) not);
+        under = λ open_erase here. absurd (none-some open_erase (sym beside.under ∙ here));
+      }
+  halted_changes Off cause op bytes on facts = stays (may_change (HaltedReply cause) op a) (is_within (open_span a)) (may_relock (HaltedReply cause) op a)
+  halted_changes (Stuck lane) cause op bytes on facts = stays (may_change (HaltedReply cause) op a) (is_within (open_span a)) (may_relock (HaltedReply cause) op a)
 
   -- whatever the reply is
-  reply_changes : (reply : Reply) (e : Entry) → e.reply ≡ reply → Admits a e → Changes (may_change reply e.op a) (is_within (open_span a)) (may_relock reply e.op) a (after_reply reply e a)
+  reply_changes : (reply : Reply) (e : Entry) → e.reply ≡ reply → Admits a e → Changes (may_change reply e.op a) (is_within (open_span a)) (may_relock reply e.op a) a (after_reply reply e a)
   reply_changes Done e same admits = done_changes (is_within (open_span a)) e.op (admitted_inside a e admits (λ out. let no = out ∙ same in cc))
-  reply_changes Opened e same admits = opened_changes (may_change Opened e.op a) (is_within (open_span a)) (may_relock Opened e.op) e.op e.caller (admitted_inside a e admits (λ out. let no = out ∙ same in cc))
-  reply_changes Erased e same admits = erased_changes (may_relock Erased e.op) e.op
+  reply_changes Opened e same admits = opened_changes (may_change Opened e.op a) (is_within (open_span a)) (may_relock Opened e.op a) e.op e.caller (admitted_inside a e admits (λ out. let no = out ∙ same in cc))
+  reply_changes Erased e same admits = erased_changes (may_relock Erased e.op a) e.op
   reply_changes (Failed from to lanes) e same admits =
-      failed_changes (may_relock (Failed from to lanes) e.op) e.op from to lanes e.bytes (admitted_inside a e admits (λ out. let no = out ∙ same in cc)) (admitted_failed a e from to lanes admits same)
+      failed_changes (may_relock (Failed from to lanes) e.op a) e.op from to lanes e.bytes (admitted_inside a e admits (λ out. let no = out ∙ same in cc)) (admitted_failed a e from to lanes admits same)
   reply_changes (HaltedReply cause) e same admits =
-      halted_changes a.power (may_relock (HaltedReply cause) e.op) cause e.op e.bytes refl (λ on. admitted_halt a e cause admits same on)
-  reply_changes reply e same admits = stays (may_change reply e.op a) (is_within (open_span a)) (may_relock reply e.op)
+      halted_changes a.power cause e.op e.bytes refl (λ on. admitted_halt a e cause admits same on)
+  reply_changes reply e same admits = stays (may_change reply e.op a) (is_within (open_span a)) (may_relock reply e.op a)
 
-  pub entry_changes : (e : Entry) → Admits a e → Changes (may_change e.reply e.op a) (is_within (open_span a)) (may_relock e.reply e.op) a (after a e)
+  pub entry_changes : (e : Entry) → Admits a e → Changes (may_change e.reply e.op a) (is_within (open_span a)) (may_relock e.reply e.op a) a (after a e)
   entry_changes e admits = reply_changes e.reply e refl admits
 
   pub after_is_array : (e : Entry) → Admits a e → IsArray (after a e)
   after_is_array e admits =
-      changed_array (may_change e.reply e.op a) (is_within (open_span a)) (may_relock e.reply e.op) a (after a e) is (entry_changes e admits)
+      changed_array (may_change e.reply e.op a) (is_within (open_span a)) (may_relock e.reply e.op a) a (after a e) is (entry_changes e admits)
 
   pub rest_stays : (e : Entry) → Admits a e → KeepsTheRest a e
   rest_stays e admits =

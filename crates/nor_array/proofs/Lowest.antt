@@ -1,6 +1,6 @@
 -- The lowest number that passes a test, step by step.
 use Rattle.std.proofs.Common.{◌≡◌, ◌+◌, ◌<◌, ℕ, zero, suc, ap, arith, ◌∙◌, Bool, true, false, cond, Some}
-use Rattle.nor_array.specs.Admits.{lowest}
+use Rattle.nor_array.specs.Array.{lowest}
 
 -- one that fails is passed over
 pub lowest_over : (test : ℕ → Bool) (k n m : ℕ) → n ≡ suc m → test k ≡ false → lowest test k n ≡ lowest test (k + 1) m

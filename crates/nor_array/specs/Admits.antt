@@ -1,24 +1,23 @@
 -- Which entries an array admits.
-use Rattle.std.specs.Prelude.{◌≡◌, ◌<◌, ◌≤◌, ◌+◌, ◌-◌, ℕ, zero, suc, List, [], length, take, drop, slice_index, bit_and, Bool, true, false, not, ◌==◌, ◌&&◌, nat_lt, nat_le, if◌then◌else◌, Option, Some, None, is_some}
+use Rattle.std.specs.Prelude.{◌≡◌, ◌<◌, ◌≤◌, ◌+◌, ◌-◌, ◌⊎◌, ℕ, List, [], ◌∷◌, length, take, drop, slice_index, bit_and, Bool, true, false, not, ◌==◌, ◌&&◌, nat_lt, nat_le, if◌then◌else◌, Option, Some, None, is_some}
 use Rattle.std.specs.List.{list_any}
 use Rattle.nor_cell.specs.Bits.{IsBetween, AreBytes}
 use Rattle.nor_cell.specs.Chip.{span_end}
 use Rattle.nor_cell.specs.declared.device.Span.{Span}
-use Rattle.nor_array.specs.Array.{ArrayState, range, open_span, is_locked, is_open, meets}
+use Rattle.nor_array.specs.Array.{ArrayState, range, open_span, is_locked, is_open, meets, lowest}
 use Rattle.nor_array.specs.Refusals.{refusal, touches}
+use Rattle.nor_array.specs.Needs.{needs_of}
+use Rattle.nor_array.specs.declared.needs.Chance.{Chance}
+use Rattle.nor_array.specs.declared.needs.Chance.TheVariants.{Never, BesideErase, Always}
 use Rattle.nor_array.specs.declared.state.OpenErase.{OpenErase}
 use Rattle.nor_array.specs.declared.state.ArmedCut.{ArmedCut}
 use Rattle.nor_array.specs.declared.entry.Op.{Op}
-use Rattle.nor_array.specs.declared.entry.Op.TheVariants.{Read, Program, EraseOpen, Poll, Lock, Unlock, IsLocked, Arm, PowerOn}
+use Rattle.nor_array.specs.declared.entry.Op.TheVariants.{Read, Program, EraseOpen, EraseAll, Poll, Lock, Unlock, IsLocked, Arm, PowerOn}
 use Rattle.nor_array.specs.declared.entry.Reply.{Reply}
 use Rattle.nor_array.specs.declared.entry.Reply.TheVariants.{Done, Opened, Erased, Bit, Locked, NotYet, Failed, Halted as HaltedReply}
+use Rattle.nor_array.specs.declared.entry.Halted.{Halted}
 use Rattle.nor_array.specs.declared.entry.Halted.TheVariants.{Off as OffHalt, Stuck as StuckHalt}
 use Rattle.nor_array.specs.declared.entry.Entry.{Entry}
-
--- the lowest of the n numbers from k on that passes the test
-abbrev pub lowest : (ℕ → Bool) → (k n : ℕ) → Option ℕ
-lowest test k zero = None
-lowest test k (suc n) = if test k then Some k else lowest test (k + 1) n
 
 -- Arm and PowerOn are the bank's own: their caller is 0.
 abbrev pub HasItsCaller : Op → ℕ → Type 0
@@ -26,61 +25,21 @@ HasItsCaller (Arm cut mask) caller = caller ≡ 0
 HasItsCaller PowerOn caller = caller ≡ 0
 HasItsCaller _ caller = Unit {0}
 
--- Arm, PowerOn, and a read or a program of no bytes ask nothing of the chips: they are Done.
-abbrev pub needs_no_chip : Op → Bool
-needs_no_chip (Read at len) = len == 0
-needs_no_chip (Program at new) = length new == 0
-needs_no_chip (EraseOpen b) = false
-needs_no_chip Poll = false
-needs_no_chip (Lock b) = false
-needs_no_chip (Unlock b) = false
-needs_no_chip (IsLocked b) = false
-needs_no_chip (Arm cut mask) = true
-needs_no_chip PowerOn = true
-
--- NotYet comes for a poll, or where a block is under erase for the others, but for EraseOpen.
-abbrev pub may_wait : Op → Option OpenErase → Bool
-may_wait (Read at len) under = is_open under
-may_wait (Program at new) under = is_open under
-may_wait (EraseOpen b) under = false
-may_wait Poll under = true
-may_wait (Lock b) under = is_open under
-may_wait (Unlock b) under = is_open under
-may_wait (IsLocked b) under = is_open under
-may_wait (Arm cut mask) under = false
-may_wait PowerOn under = false
+-- an answer that may come at some times comes where this is under erase
+abbrev pub may_come : Chance → Option OpenErase → Bool
+may_come Never under = false
+may_come BesideErase under = is_open under
+may_come Always under = true
 
 -- Halted by loss of power comes only where a cut is armed, and names the number of cycles with which it was.
 abbrev pub IsArmed : Option ArmedCut → ℕ → Type 0
 IsArmed None n = ⊥
 IsArmed (Some cut) n = cut.after ≡ n
 
--- Halted by a stuck lane comes for a poll and a program, or where a block is under erase for the others, but for EraseOpen.
-abbrev pub may_stick : Op → Option OpenErase → Bool
-may_stick (Read at len) under = is_open under
-may_stick (Program at new) under = true
-may_stick (EraseOpen b) under = false
-may_stick Poll under = true
-may_stick (Lock b) under = is_open under
-may_stick (Unlock b) under = is_open under
-may_stick (IsLocked b) under = is_open under
-may_stick (Arm cut mask) under = false
-may_stick PowerOn under = false
-
-abbrev pub needs_unlocked : Op → Bool
-needs_unlocked (Read at len) = false
-needs_unlocked (Program at new) = true
-needs_unlocked (EraseOpen b) = true
-needs_unlocked Poll = false
-needs_unlocked (Lock b) = false
-needs_unlocked (Unlock b) = false
-needs_unlocked (IsLocked b) = false
-needs_unlocked (Arm cut mask) = false
-needs_unlocked PowerOn = false
-
--- the lowest locked block that a program or the opening of an erase touches
+-- the lowest locked block that is touched by a call whose blocks have to be unlocked
 abbrev pub first_locked : ArrayState → Op → Option ℕ
-first_locked a op = if needs_unlocked op then lowest (λ b. touches a op b && is_locked a b) 0 (length a.consts.blocks) else None
+first_locked a op =
+    if (needs_of op).unlocked then lowest (λ b. touches a (needs_of op).reach b && is_locked a b) 0 (length a.consts.blocks) else None
 
 -- so many bytes, of any value
 pub record AreUncertain (n : ℕ) (bytes : List ℕ) : Type 0 where
@@ -97,13 +56,27 @@ abbrev pub ProgramLeaves : Option ℕ → (old new bytes : List ℕ) → Type 0
 ProgramLeaves None old new bytes = AllBetween old new bytes
 ProgramLeaves (Some b) old new bytes = bytes ≡ old
 
--- The bytes of a halt: any in the block under erase, and after them those in the range of a program.
-abbrev pub HaltLeaves : Op → ArrayState → List ℕ → Type 0
-HaltLeaves (Program at new) a bytes =
-    let erasing = (open_span a).len in
-    AreUncertain erasing (take erasing bytes)
-    × ProgramLeaves (first_locked a (Program at new)) (range a.bytes at (length new)) new (drop erasing bytes)
-HaltLeaves _ a bytes = AreUncertain (open_span a).len bytes
+-- the byte that tells how a block stands
+abbrev pub lock_byte : Bool → ℕ
+lock_byte true = 1
+lock_byte false = 0
+
+-- What a halt leaves of a lock: the old bit or the one asked for, and the old one where a lane is stuck.
+abbrev pub LockLeaves : Halted → (old asked : Bool) → List ℕ → Type 0
+LockLeaves (OffHalt n) old asked left = (left ≡ lock_byte old ∷ []) ⊎ (left ≡ lock_byte asked ∷ [])
+LockLeaves (StuckHalt lane) old asked left = left ≡ lock_byte old ∷ []
+
+-- and of the call's own work
+abbrev pub WorkLeaves : Op → Halted → ArrayState → List ℕ → Type 0
+WorkLeaves (Program at new) cause a left = ProgramLeaves (first_locked a (Program at new)) (range a.bytes at (length new)) new left
+WorkLeaves (Lock b) cause a left = LockLeaves cause (is_locked a b) true left
+WorkLeaves (Unlock b) cause a left = LockLeaves cause (is_locked a b) false left
+WorkLeaves _ cause a left = left ≡ []
+
+-- The bytes of a halt: any in what is under erase, and after them what the call's own work has become.
+abbrev pub HaltLeaves : Halted → Op → ArrayState → List ℕ → Type 0
+HaltLeaves cause op a bytes =
+    AreUncertain (open_span a).len (take (open_span a).len bytes) × WorkLeaves op cause a (drop (open_span a).len bytes)
 
 -- programming this place would clear a bit
 abbrev pub would_change : (old : List ℕ) (at : ℕ) (new : List ℕ) (p : ℕ) → Bool
@@ -134,17 +107,17 @@ ProgramEnds a at new Done bytes = (program_breaks a at new ≡ false) × (bytes 
 ProgramEnds a at new (Failed from to lanes) bytes = (program_breaks a at new ≡ true) × FailsWithin a at new from to bytes
 ProgramEnds a at new _ bytes = ⊥
 
--- a weak span lies in the block under erase
+-- a weak span meets what is under erase
 abbrev pub erase_breaks : ArrayState → Bool
 erase_breaks a = list_any (meets (open_span a).from (open_span a).len) a.consts.weak
 
--- A failed erase names its block, and leaves any bytes there.
+-- A failed erase names all that was under erase, and leaves any bytes there.
 pub record FailsWhole (a : ArrayState) (from to : ℕ) (bytes : List ℕ) : Type 0 where
   pub begins : from ≡ (open_span a).from
   pub ends : to ≡ span_end (open_span a)
   pub left : AreUncertain (open_span a).len bytes
 
--- A poll is Erased exactly where no weak span lies in the block under erase, and Failed exactly where one does.
+-- A poll is Erased exactly where no weak span meets what is under erase, and Failed exactly where one does.
 abbrev pub PollEnds : ArrayState → Reply → List ℕ → Type 0
 PollEnds a Erased bytes = (erase_breaks a ≡ false) × (bytes ≡ [])
 PollEnds a (Failed from to lanes) bytes = (erase_breaks a ≡ true) × FailsWhole a from to bytes
@@ -155,6 +128,7 @@ abbrev pub Ends : Op → ArrayState → Reply → List ℕ → Type 0
 Ends (Read at len) a reply bytes = (reply ≡ Done) × (bytes ≡ range a.bytes at len)
 Ends (Program at new) a reply bytes = ProgramEnds a at new reply bytes
 Ends (EraseOpen b) a reply bytes = (reply ≡ Opened) × (bytes ≡ [])
+Ends EraseAll a reply bytes = (reply ≡ Opened) × (bytes ≡ [])
 Ends Poll a reply bytes = PollEnds a reply bytes
 Ends (Lock b) a reply bytes = (reply ≡ Done) × (bytes ≡ [])
 Ends (Unlock b) a reply bytes = (reply ≡ Done) × (bytes ≡ [])
@@ -162,16 +136,16 @@ Ends (IsLocked b) a reply bytes = (reply ≡ Bit (is_locked a b)) × (bytes ≡ 
 Ends (Arm cut mask) a reply bytes = ⊥
 Ends PowerOn a reply bytes = ⊥
 
--- A program or the opening of an erase is Locked exactly where it touches a locked block, and names the lowest.
+-- A call whose blocks have to be unlocked is Locked exactly where it touches a locked block, and names the lowest.
 abbrev pub EndsUnlocked : Option ℕ → Op → ArrayState → Reply → List ℕ → Type 0
 EndsUnlocked None op a reply bytes = Ends op a reply bytes
 EndsUnlocked (Some b) op a reply bytes = (reply ≡ Locked b) × (bytes ≡ [])
 
 -- what a call may be answered that asks something of the chips
 abbrev pub AsksChips : Reply → Op → ArrayState → List ℕ → Type 0
-AsksChips NotYet op a bytes = (may_wait op a.under ≡ true) × (bytes ≡ [])
-AsksChips (HaltedReply (OffHalt n)) op a bytes = IsArmed a.armed n × HaltLeaves op a bytes
-AsksChips (HaltedReply (StuckHalt lane)) op a bytes = (may_stick op a.under ≡ true) × HaltLeaves op a bytes
+AsksChips NotYet op a bytes = (may_come (needs_of op).waits a.under ≡ true) × (bytes ≡ [])
+AsksChips (HaltedReply (OffHalt n)) op a bytes = IsArmed a.armed n × HaltLeaves (OffHalt n) op a bytes
+AsksChips (HaltedReply (StuckHalt lane)) op a bytes = (may_come (needs_of op).sticks a.under ≡ true) × HaltLeaves (StuckHalt lane) op a bytes
 AsksChips reply op a bytes = EndsUnlocked (first_locked a op) op a reply bytes
 
 abbrev pub Unrefused : Bool → Entry → ArrayState → Type 0
@@ -181,7 +155,7 @@ Unrefused false e a = AsksChips e.reply e.op a e.bytes
 -- Where a refusal holds, it is the reply and there are no bytes.
 abbrev pub Answers : Option Reply → Entry → ArrayState → Type 0
 Answers (Some reply) e a = (e.reply ≡ reply) × (e.bytes ≡ [])
-Answers None e a = Unrefused (needs_no_chip e.op) e a
+Answers None e a = Unrefused (needs_of e.op).idle e a
 
 -- the array admits the entry
 abbrev pub Admits : ArrayState → Entry → Type 0

@@ -8,7 +8,14 @@ use Rattle.nor_array.specs.declared.state.ArmedCut.{ArmedCut}
 use Rattle.nor_array.specs.declared.array.Consts.{Consts}
 
 abbrev pub constants : Consts → Constants
-constants c = record { blocks = spans_of c.map; has_locks = c.has_locks; locked = c.locked; weak = c.weak.items }
+constants c = record {
+  blocks = spans_of c.map;
+  has_locks = c.has_locks;
+  locked = c.locked.items;
+  keeps = c.keeps;
+  has_chip_erase = c.has_chip_erase;
+  weak = c.weak.items;
+}
 
 -- an array of these constants
 abbrev pub state_of : Consts → List ℕ → List Bool → Option OpenErase → Power → Option ArmedCut → ArrayState

@@ -1,10 +1,10 @@
 -- What an entry's bytes fit into.
-use Rattle.std.specs.Prelude.{◌≡◌, ◌≤◌, ◌+◌, ◌-◌, ℕ, List, length}
+use Rattle.std.specs.Prelude.{◌≡◌, ◌<◌, ◌≤◌, ◌+◌, ℕ, List, length, drop}
 use Rattle.nor_array.specs.Array.{ArrayState, open_span}
 use Rattle.nor_array.specs.declared.state.Power.{Power}
 use Rattle.nor_array.specs.declared.state.Power.TheVariants.{On, Off, Stuck}
 use Rattle.nor_array.specs.declared.entry.Op.{Op}
-use Rattle.nor_array.specs.declared.entry.Op.TheVariants.{Program, Poll}
+use Rattle.nor_array.specs.declared.entry.Op.TheVariants.{Program, Poll, Lock, Unlock}
 
 -- the part of a program's range that failed
 pub record FailsInside (size at len from : ℕ) (bytes : List ℕ) : Type 0 where
@@ -18,15 +18,17 @@ FailFits (Program at new) a from bytes = FailsInside (length a.bytes) at (length
 FailFits Poll a from bytes = length bytes ≡ (open_span a).len
 FailFits _ a from bytes = Unit {0}
 
--- a program's range lies in so many bytes, and the bytes fill it
-abbrev pub LeftFits : Op → ℕ → ℕ → Type 0
-LeftFits (Program at new) size len = at + len ≤ size
-LeftFits _ size len = Unit {0}
+-- the bytes lie in the array from the place of a program on, and the block of a lock call is there
+abbrev pub LeftFits : Op → ArrayState → List ℕ → Type 0
+LeftFits (Program at new) a left = at + length left ≤ length a.bytes
+LeftFits (Lock b) a left = b < length a.consts.blocks
+LeftFits (Unlock b) a left = b < length a.consts.blocks
+LeftFits _ a left = Unit {0}
 
--- The bytes of a halt reach over the block under erase, and the rest fits.
+-- The bytes of a halt reach over what is under erase, and the rest fits.
 pub record HaltIsWhole (op : Op) (a : ArrayState) (bytes : List ℕ) : Type 0 where
   pub block : (open_span a).len ≤ length bytes
-  pub rest : LeftFits op (length a.bytes) (length bytes - (open_span a).len)
+  pub rest : LeftFits op a (drop (open_span a).len bytes)
 
 abbrev pub HaltFits : Power → Op → ArrayState → List ℕ → Type 0
 HaltFits On op a bytes = HaltIsWhole op a bytes

@@ -8,9 +8,9 @@ use Rattle.nor_cell.specs.Wiring.{lane_at}
 use Rattle.nor_cell.specs.declared.device.Span.{Span}
 use Rattle.nor_cell.specs.declared.device.SuspendKind.{SuspendKind}
 use Rattle.nor_cell.specs.declared.geometry.Geometry.{Geometry}
-use Rattle.nor_array.specs.Array.{ArrayState, is_on, is_open, meets}
+use Rattle.nor_array.specs.Array.{ArrayState, is_on, is_open, meets, lowest}
 use Rattle.nor_array.specs.After.{after}
-use Rattle.nor_array.specs.Admits.{Admits, lowest, first_locked, would_change, span_changes}
+use Rattle.nor_array.specs.Admits.{Admits, first_locked, would_change, span_changes}
 use Rattle.nor_array.specs.declared.entry.Op.{Op}
 use Rattle.nor_array.specs.declared.entry.Op.TheVariants.{Read, Program, Poll, Lock, Unlock, IsLocked}
 use Rattle.nor_array.specs.declared.entry.Reply.{Reply}
@@ -51,7 +51,7 @@ LacksSuspend _ kind = Unit {0}
 abbrev pub range_changes : ArrayState → ℕ → List ℕ → Bool
 range_changes a at new = is_some (lowest (would_change a.bytes at new) at (length new))
 
--- A program that is halted by a stuck lane, with power on and no block under erase, had something to do in unlocked blocks.
+-- A program that is halted by a stuck lane, with power on and nothing under erase, had something to do in unlocked blocks.
 abbrev pub SticksAtWork : Op → ArrayState → Type 0
 SticksAtWork (Program at new) a = (is_on a.power && not (is_open a.under)) ≡ true → (first_locked a (Program at new) ≡ None) × (range_changes a at new ≡ true)
 SticksAtWork _ a = Unit {0}
@@ -85,14 +85,14 @@ pub record FailsInPiece (facts : Facts) (a : ArrayState) (at : ℕ) (new : List 
   pub named : AreLanes facts (λ span. meets from (to - from) span && span_changes a.bytes at new span) a.consts.weak lanes
   pub others : OthersAre facts lanes from (λ p. bit_and (slice_index a.bytes p) (slice_index new (p - at))) bytes
 
--- An erase fails in its block. It names the lanes with a weak span there; the bytes of the others are 0xFF.
-pub record FailsInBlock (facts : Facts) (a : ArrayState) (from to lanes : ℕ) (bytes : List ℕ) : Type 0 where
+-- An erase fails in all that was under erase. It names the lanes with a weak span there; the bytes of the others are 0xFF.
+pub record FailsInErase (facts : Facts) (a : ArrayState) (from to lanes : ℕ) (bytes : List ℕ) : Type 0 where
   pub named : AreLanes facts (meets from (to - from)) a.consts.weak lanes
   pub others : OthersAre facts lanes from (λ p. 0xFF) bytes
 
 abbrev pub FailureAgrees : Op → Facts → ArrayState → (from to lanes : ℕ) → List ℕ → Type 0
 FailureAgrees (Program at new) facts a from to lanes bytes = FailsInPiece facts a at new from to lanes bytes
-FailureAgrees Poll facts a from to lanes bytes = FailsInBlock facts a from to lanes bytes
+FailureAgrees Poll facts a from to lanes bytes = FailsInErase facts a from to lanes bytes
 FailureAgrees _ facts a from to lanes bytes = Unit {0}
 
 -- a reply agrees with the facts

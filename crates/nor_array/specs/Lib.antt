@@ -6,4 +6,5 @@ pub mod Entries
 pub mod Fits
 pub mod Laws
 pub mod Legal
+pub mod Needs
 pub mod Refusals

@@ -1,32 +1,32 @@
 -- The refusals that the array and the call alone decide, in their order.
 use Rattle.std.specs.Prelude.{◌+◌, ℕ, List, [], ◌∷◌, length, Bool, true, false, not, ◌==◌, ◌&&◌, nat_lt, nat_le, if◌then◌else◌, Option, Some, None}
-use Rattle.nor_array.specs.Array.{ArrayState, span_of, meets, is_on}
+use Rattle.nor_array.specs.Array.{ArrayState, span_of, meets, is_on, lowest}
+use Rattle.nor_array.specs.Needs.{needs_of}
+use Rattle.nor_array.specs.declared.needs.CallNeeds.{CallNeeds}
+use Rattle.nor_array.specs.declared.needs.Reach.{Reach}
+use Rattle.nor_array.specs.declared.needs.Reach.TheVariants.{Nowhere, Range, Block, Everywhere}
+use Rattle.nor_array.specs.declared.state.Target.{Target}
+use Rattle.nor_array.specs.declared.state.Target.TheVariants.{OneBlock, AllBlocks}
 use Rattle.nor_array.specs.declared.state.OpenErase.{OpenErase}
 use Rattle.nor_array.specs.declared.state.ArmedCut.{ArmedCut}
 use Rattle.nor_array.specs.declared.state.Power.{Power}
 use Rattle.nor_array.specs.declared.state.Power.TheVariants.{On, Off, Stuck}
 use Rattle.nor_array.specs.declared.entry.Op.{Op}
-use Rattle.nor_array.specs.declared.entry.Op.TheVariants.{Read, Program, EraseOpen, Poll, Lock, Unlock, IsLocked, Arm, PowerOn}
+use Rattle.nor_array.specs.declared.entry.Op.TheVariants.{Poll, PowerOn}
 use Rattle.nor_array.specs.declared.entry.Reply.{Reply}
-use Rattle.nor_array.specs.declared.entry.Reply.TheVariants.{OutOfRange, TooLong, Busy, Occupied, NoLocks, Nothing, Halted as HaltedReply}
+use Rattle.nor_array.specs.declared.entry.Reply.TheVariants.{OutOfRange, TooLong, Busy, Occupied, NoLocks, NoChipErase, Nothing, Halted as HaltedReply}
 use Rattle.nor_array.specs.declared.entry.Halted.TheVariants.{Off as OffHalt, Stuck as StuckHalt}
 
 -- OutOfRange: the bytes, or the block, aren't there.
-abbrev pub is_outside : ArrayState → Op → Bool
-is_outside a (Read at len) = nat_lt (length a.bytes) (at + len)
-is_outside a (Program at new) = nat_lt (length a.bytes) (at + length new)
-is_outside a (EraseOpen b) = nat_le (length a.consts.blocks) b
-is_outside a Poll = false
-is_outside a (Lock b) = nat_le (length a.consts.blocks) b
-is_outside a (Unlock b) = nat_le (length a.consts.blocks) b
-is_outside a (IsLocked b) = nat_le (length a.consts.blocks) b
-is_outside a (Arm cut mask) = false
-is_outside a PowerOn = false
+abbrev pub is_outside : ArrayState → Reach → Bool
+is_outside a Nowhere = false
+is_outside a (Range at len) = nat_lt (length a.bytes) (at + len)
+is_outside a (Block b) = nat_le (length a.consts.blocks) b
+is_outside a Everywhere = false
 
 -- TooLong: a read or a program of more than 4,096 bytes.
-abbrev pub is_too_long : Op → Bool
-is_too_long (Read at len) = nat_lt 4096 len
-is_too_long (Program at new) = nat_lt 4096 (length new)
+abbrev pub is_too_long : Reach → Bool
+is_too_long (Range at len) = nat_lt 4096 len
 is_too_long _ = false
 
 abbrev pub is_power_on : Op → Bool
@@ -54,46 +54,38 @@ has_nothing a caller Poll = not (owns a.under caller)
 has_nothing a caller PowerOn = is_on a.power
 has_nothing a caller _ = false
 
--- the call touches this block
-abbrev pub touches : ArrayState → Op → ℕ → Bool
-touches a (Read at len) b = meets at len (span_of a b)
-touches a (Program at new) b = meets at (length new) (span_of a b)
-touches a (EraseOpen c) b = c == b
-touches a Poll b = false
-touches a (Lock c) b = c == b
-touches a (Unlock c) b = c == b
-touches a (IsLocked c) b = c == b
-touches a (Arm cut mask) b = false
-touches a PowerOn b = false
+-- this block is touched
+abbrev pub touches : ArrayState → Reach → ℕ → Bool
+touches a Nowhere b = false
+touches a (Range at len) b = meets at len (span_of a b)
+touches a (Block c) b = c == b
+touches a Everywhere b = true
 
-abbrev pub opens_erase : Op → Bool
-opens_erase (Read at len) = false
-opens_erase (Program at new) = false
-opens_erase (EraseOpen b) = true
-opens_erase Poll = false
-opens_erase (Lock b) = false
-opens_erase (Unlock b) = false
-opens_erase (IsLocked b) = false
-opens_erase (Arm cut mask) = false
-opens_erase PowerOn = false
+-- the lowest block under erase that is touched
+abbrev pub touched_open : Target → ArrayState → Reach → Option ℕ
+touched_open (OneBlock b) a reach = if touches a reach b then Some b else None
+touched_open AllBlocks a reach = lowest (touches a reach) 0 (length a.consts.blocks)
 
--- Busy: the call touches the block under erase. Occupied: it would erase another one.
-abbrev pub while_open : Option OpenErase → ArrayState → Op → Option Reply
-while_open None a op = None
-while_open (Some open_erase) a op =
-    if touches a op open_erase.block then Some (Busy open_erase.block)
-    else if opens_erase op then Some (Occupied open_erase.block)
-    else None
+-- Busy: the call touches a block under erase. An erase of all blocks isn't told so.
+abbrev pub first_busy : OpenErase → ArrayState → CallNeeds → Option ℕ
+first_busy open_erase a needs = if needs.chip_erase then None else touched_open open_erase.target a needs.reach
 
--- a lock call
-abbrev pub needs_locks : Op → Bool
-needs_locks (Lock b) = true
-needs_locks (Unlock b) = true
-needs_locks (IsLocked b) = true
-needs_locks _ = false
+-- the lowest block under erase
+abbrev pub first_open : Target → ℕ
+first_open (OneBlock b) = b
+first_open AllBlocks = 0
 
 abbrev pub when : Bool → Reply → Option Reply
 when holds reply = if holds then Some reply else None
+
+-- Where none is busy, Occupied: the call would begin another erase.
+abbrev pub busy_or_occupied : Option ℕ → OpenErase → Bool → Option Reply
+busy_or_occupied (Some b) open_erase opens = Some (Busy b)
+busy_or_occupied None open_erase opens = when opens (Occupied (first_open open_erase.target))
+
+abbrev pub while_open : Option OpenErase → ArrayState → CallNeeds → Option Reply
+while_open None a needs = None
+while_open (Some open_erase) a needs = busy_or_occupied (first_busy open_erase a needs) open_erase needs.opens
 
 -- the first reply of these, if there is one
 abbrev pub first_some : List (Option Reply) → Option Reply
@@ -104,10 +96,11 @@ first_some (Some reply ∷ later) = Some reply
 -- The first of these that holds is the reply.
 abbrev pub refusal : ArrayState → ℕ → Op → Option Reply
 refusal a caller op = first_some
-    (when (is_outside a op) OutOfRange
-    ∷ when (is_too_long op) TooLong
+    (when (is_outside a (needs_of op).reach) OutOfRange
+    ∷ when (is_too_long (needs_of op).reach) TooLong
     ∷ kept_halt a.power a.armed op
     ∷ when (has_nothing a caller op) Nothing
-    ∷ while_open a.under a op
-    ∷ when (needs_locks op && not a.consts.has_locks) NoLocks
+    ∷ while_open a.under a (needs_of op)
+    ∷ when ((needs_of op).locks && not a.consts.has_locks) NoLocks
+    ∷ when ((needs_of op).chip_erase && not a.consts.has_chip_erase) NoChipErase
     ∷ [])

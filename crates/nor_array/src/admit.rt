@@ -1,13 +1,14 @@
 //! Whether an array admits an entry, decided in the plainest way.
-ghost use Rattle.std.specs.Prelude.{◌≡◌, ◌<◌, ◌≤◌, ◌+◌, ◌-◌, ◌↔◌, ◌&&◌, length, IsTrue};
-ghost use Rattle.nor_cell.specs.Chip.{span_end};
-ghost use Rattle.nor_array.specs.Array.{open_span, is_locked, meets};
+ghost use Rattle.std.specs.Prelude.{[], ◌∷◌, ◌≡◌, ◌<◌, ◌≤◌, ◌+◌, ◌-◌, ◌↔◌, ◌&&◌, length, IsTrue};
+ghost use Rattle.nor_cell.specs.Chip.{covered, span_end};
+ghost use Rattle.nor_array.specs.Array.{chip_target, open_span, is_locked, lowest, meets};
 ghost use Rattle.nor_array.specs.Refusals.{touches};
-ghost use Rattle.nor_array.specs.Admits.{lowest, HasItsCaller, needs_no_chip, may_wait, IsArmed, may_stick, needs_unlocked, first_locked, AreUncertain, ProgramLeaves, HaltLeaves, erase_breaks, FailsWhole, PollEnds, Ends, EndsUnlocked, AsksChips, Admits};
+ghost use Rattle.nor_array.specs.Admits.{HasItsCaller, may_come, IsArmed, first_locked, AreUncertain, ProgramLeaves, lock_byte, LockLeaves, WorkLeaves, HaltLeaves, erase_breaks, FailsWhole, PollEnds, Ends, EndsUnlocked, AsksChips, Admits};
 
+use crate::needs::{Chance, Reach, needs_of};
 use crate::program::{all_between, program_ends, range};
-use crate::refuse::{meets, refusal, span_of, touches};
-use crate::{ArmedCut, Entry, Halted, Op, OpenErase, PlainArray, Reply};
+use crate::refuse::{all_blocks, blocks, meets, refusal, span_of, touches};
+use crate::{ArmedCut, Entry, Halted, Op, OpenErase, PlainArray, Reply, Target};
 use nor_cell::Span;
 
 // Arm and PowerOn are the bank's own.
@@ -21,39 +22,14 @@ fn has_its_caller(op: &Op, caller: u8) -> bool
     }
 }
 
-fn needs_no_chip(op: &Op) -> bool
-    ensures { result ≡ needs_no_chip op.now }
+// Whether what may be answered at some times may be answered now.
+fn may_come(chance: Chance, under: Option<OpenErase>) -> bool
+    ensures { result ≡ may_come chance under }
 {
-    match op {
-        Op::Read { len, .. } => *len == 0,
-        Op::Program { new, .. } => new.as_slice().is_empty(),
-        Op::EraseOpen { .. } | Op::Poll => false,
-        Op::Lock { .. } | Op::Unlock { .. } | Op::IsLocked { .. } => false,
-        Op::Arm { .. } | Op::PowerOn => true,
-    }
-}
-
-fn may_wait(op: &Op, under: Option<OpenErase>) -> bool
-    ensures { result ≡ may_wait op.now under }
-{
-    match op {
-        Op::Read { .. } | Op::Program { .. } => under.is_some(),
-        Op::EraseOpen { .. } => false,
-        Op::Poll => true,
-        Op::Lock { .. } | Op::Unlock { .. } | Op::IsLocked { .. } => under.is_some(),
-        Op::Arm { .. } | Op::PowerOn => false,
-    }
-}
-
-fn may_stick(op: &Op, under: Option<OpenErase>) -> bool
-    ensures { result ≡ may_stick op.now under }
-{
-    match op {
-        Op::Read { .. } => under.is_some(),
-        Op::Program { .. } | Op::Poll => true,
-        Op::EraseOpen { .. } => false,
-        Op::Lock { .. } | Op::Unlock { .. } | Op::IsLocked { .. } => under.is_some(),
-        Op::Arm { .. } | Op::PowerOn => false,
+    match chance {
+        Chance::Never => false,
+        Chance::BesideErase => under.is_some(),
+        Chance::Always => true,
     }
 }
 
@@ -66,42 +42,25 @@ fn is_armed(armed: Option<ArmedCut>, after: u32) -> bool
     }
 }
 
-fn needs_unlocked(op: &Op) -> bool
-    ensures { result ≡ needs_unlocked op.now }
-{
-    match op {
-        Op::Program { .. } | Op::EraseOpen { .. } => true,
-        Op::Read { .. } | Op::Poll => false,
-        Op::Lock { .. } | Op::Unlock { .. } | Op::IsLocked { .. } => false,
-        Op::Arm { .. } | Op::PowerOn => false,
-    }
-}
-
 fn is_locked(array: &PlainArray, block: u32) -> bool
     ensures { result ≡ is_locked array.now block }
 {
     (block as usize) < array.locks.len() && array.locks[block as usize]
 }
 
-// Whether the call touches the block, and it is locked.
-fn touches_locked(array: &PlainArray, op: &Op, block: u32) -> bool
-    ensures { result ≡ (touches array.now op.now block && is_locked array.now block) }
+// Whether the block is touched, and it is locked.
+fn touches_locked(array: &PlainArray, reach: Reach, block: u32) -> bool
+    ensures { result ≡ (touches array.now reach block && is_locked array.now block) }
 {
-    touches(array, op, block) && is_locked(array, block)
+    touches(array, reach, block) && is_locked(array, block)
 }
 
-fn blocks(array: &PlainArray) -> u32
-    ensures { result ≡ length (array.now).consts.blocks }
-{
-    array.consts.map.blocks()
-}
-
-// The lowest locked block that the call touches.
-fn lowest_locked(array: &PlainArray, op: &Op) -> Option<u32>
-    ensures { result ≡ lowest (λ b. touches array.now op.now b && is_locked array.now b) 0 (length (array.now).consts.blocks) }
+// The lowest locked block that is touched.
+fn lowest_locked(array: &PlainArray, reach: Reach) -> Option<u32>
+    ensures { result ≡ lowest (λ b. touches array.now reach b && is_locked array.now b) 0 (length (array.now).consts.blocks) }
 {
     for block in 0..blocks(array) {
-        if touches_locked(array, op, block) {
+        if touches_locked(array, reach, block) {
             return Some(block);
         }
     }
@@ -112,10 +71,21 @@ fn lowest_locked(array: &PlainArray, op: &Op) -> Option<u32>
 fn first_locked(array: &PlainArray, op: &Op) -> Option<u32>
     ensures { result ≡ first_locked array.now op.now }
 {
-    if needs_unlocked(op) {
-        lowest_locked(array, op)
+    let needs = needs_of(op);
+    if needs.unlocked {
+        lowest_locked(array, needs.reach)
     } else {
         None
+    }
+}
+
+// The bytes of a target.
+fn target_span(array: &PlainArray, target: Target) -> Span
+    ensures { result ≡ covered (chip_target target) (array.now).consts.blocks }
+{
+    match target {
+        Target::OneBlock { block } => span_of(array, block),
+        Target::AllBlocks => all_blocks(array),
     }
 }
 
@@ -125,7 +95,7 @@ pub(crate) fn open_span(array: &PlainArray) -> Span
     ensures inside { span_end result ≤ length (array.now).bytes }
 {
     match array.under {
-        Some(open) => span_of(array, open.block),
+        Some(open) => target_span(array, open.target),
         None => Span { from: 0, len: 0 },
     }
 }
@@ -147,24 +117,48 @@ fn program_leaves(locked: Option<u32>, old: &[u8], new: &[u8], bytes: &[u8]) -> 
     }
 }
 
-// Whether these may be the bytes of a halt.
-fn halt_leaves(array: &PlainArray, op: &Op, bytes: &[u8]) -> bool
-    ensures { IsTrue result ↔ HaltLeaves op.now array.now bytes.now }
+// Whether these bytes are one that tells how a block stands.
+fn is_lock_byte(locked: bool, left: &[u8]) -> bool
+    ensures { IsTrue result ↔ (left.now ≡ lock_byte locked ∷ []) }
 {
-    let erasing = open_span(array).len as usize;
-    let Op::Program { at, new } = op else {
-        return are_uncertain(erasing, bytes);
-    };
-    if bytes.len() < erasing {
-        return false;
-    }
-    let new = new.as_slice();
-    let old = range(&array.bytes, *at as usize, new.len());
-    are_uncertain(erasing, &bytes[..erasing])
-        && program_leaves(first_locked(array, op), old, new, &bytes[erasing..])
+    left == [u8::from(locked)].as_slice()
 }
 
-// Whether a weak span lies in the block under erase.
+// Whether a halt may leave a lock so.
+fn lock_leaves(cause: Halted, old: bool, asked: bool, left: &[u8]) -> bool
+    ensures { IsTrue result ↔ LockLeaves cause old asked left.now }
+{
+    match cause {
+        Halted::Off { .. } => is_lock_byte(old, left) || is_lock_byte(asked, left),
+        Halted::Stuck { .. } => is_lock_byte(old, left),
+    }
+}
+
+// Whether it may leave the call's own work so.
+fn work_leaves(array: &PlainArray, op: &Op, cause: Halted, left: &[u8]) -> bool
+    ensures { IsTrue result ↔ WorkLeaves op.now cause array.now left.now }
+{
+    match op {
+        Op::Program { at, new } => {
+            let new = new.as_slice();
+            let old = range(&array.bytes, *at as usize, new.len());
+            program_leaves(first_locked(array, op), old, new, left)
+        }
+        Op::Lock { block } => lock_leaves(cause, is_locked(array, *block), true, left),
+        Op::Unlock { block } => lock_leaves(cause, is_locked(array, *block), false, left),
+        _ => left.is_empty(),
+    }
+}
+
+// Whether these may be the bytes of a halt.
+fn halt_leaves(array: &PlainArray, op: &Op, cause: Halted, bytes: &[u8]) -> bool
+    ensures { IsTrue result ↔ HaltLeaves cause op.now array.now bytes.now }
+{
+    let erasing = open_span(array).len as usize;
+    bytes.len() >= erasing && work_leaves(array, op, cause, &bytes[erasing..])
+}
+
+// Whether a weak span meets what is under erase.
 fn erase_breaks(array: &PlainArray) -> bool
     ensures { result ≡ erase_breaks array.now }
 {
@@ -205,15 +199,13 @@ fn ends(array: &PlainArray, op: &Op, reply: Reply, bytes: &[u8]) -> bool
             reply == Reply::Done && bytes == range(&array.bytes, *at as usize, *len as usize)
         }
         Op::Program { at, new } => program_ends(array, *at, new.as_slice(), reply, bytes),
-        Op::EraseOpen { .. } => reply == Reply::Opened && bytes.is_empty(),
+        Op::EraseOpen { .. } | Op::EraseAll => reply == Reply::Opened && bytes.is_empty(),
         Op::Poll => poll_ends(array, reply, bytes),
-        Op::Lock { .. } => reply == Reply::Done && bytes.is_empty(),
-        Op::Unlock { .. } => reply == Reply::Done && bytes.is_empty(),
+        Op::Lock { .. } | Op::Unlock { .. } => reply == Reply::Done && bytes.is_empty(),
         Op::IsLocked { block } => {
             reply == Reply::Bit(is_locked(array, *block)) && bytes.is_empty()
         }
-        Op::Arm { .. } => false,
-        Op::PowerOn => false,
+        Op::Arm { .. } | Op::PowerOn => false,
     }
 }
 
@@ -230,12 +222,13 @@ fn asks_chips(array: &PlainArray, op: &Op, reply: Reply, bytes: &[u8]) -> bool
     ensures { IsTrue result ↔ AsksChips reply op.now array.now bytes.now }
 {
     match reply {
-        Reply::NotYet => may_wait(op, array.under) && bytes.is_empty(),
+        Reply::NotYet => may_come(needs_of(op).waits, array.under) && bytes.is_empty(),
         Reply::Halted(Halted::Off { after }) => {
-            is_armed(array.armed, after) && halt_leaves(array, op, bytes)
+            is_armed(array.armed, after) && halt_leaves(array, op, Halted::Off { after }, bytes)
         }
-        Reply::Halted(Halted::Stuck { .. }) => {
-            may_stick(op, array.under) && halt_leaves(array, op, bytes)
+        Reply::Halted(Halted::Stuck { lane }) => {
+            may_come(needs_of(op).sticks, array.under)
+                && halt_leaves(array, op, Halted::Stuck { lane }, bytes)
         }
         _ => ends_unlocked(array, op, reply, bytes),
     }
@@ -252,7 +245,7 @@ pub fn admits(array: &PlainArray, entry: &Entry) -> bool
     if let Some(reply) = refusal(array, entry.caller, &entry.op) {
         return entry.reply == reply && bytes.is_empty();
     }
-    if needs_no_chip(&entry.op) {
+    if needs_of(&entry.op).idle {
         return entry.reply == Reply::Done && bytes.is_empty();
     }
     asks_chips(array, &entry.op, entry.reply, bytes)

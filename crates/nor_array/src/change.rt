@@ -1,13 +1,17 @@
 //! What an entry makes of an array.
 ghost use Rattle.std.specs.Prelude.{◌≡◌, ◌<◌, ◌≤◌, ◌+◌, length, replicate, false};
 ghost use Rattle.nor_array.specs.Array.{put as put_bytes, open_span};
-ghost use Rattle.nor_array.specs.After.{programmed, with_lock, after_done, after_opened, closed, after_erased, after_failed, power_of, halted_bytes, after_halted, after};
+ghost use Rattle.nor_array.specs.After.{programmed, with_lock, after_done, after_opened, closed, after_erased, after_failed, power_of, names_locked, left_by, after_halted, after};
+ghost use Rattle.nor_array.specs.Needs.{needs_of};
 ghost use Rattle.nor_array.specs.Refusals.{is_outside};
 ghost use Rattle.nor_array.specs.Admits.{Admits};
 ghost use Rattle.nor_array.specs.Fits.{FailFits, LeftFits, HaltFits};
 
 use crate::admit::open_span;
-use crate::{ArmedCut, Entry, Halted, Op, OpenErase, PlainArray, Power, Reply, bytes_edits};
+use crate::program::byte_at;
+use crate::{
+    ArmedCut, Entry, Halted, Op, OpenErase, PlainArray, Power, Reply, Target, bytes_edits,
+};
 
 // Puts bytes in the place of as many.
 fn put(array: &mut PlainArray, at: u32, new: &[u8])
@@ -46,11 +50,13 @@ fn power_on(array: &mut PlainArray)
     array.power = Power::On;
     array.under = None;
     array.armed = None;
-    array.locks.fill(array.consts.locked);
+    if !array.consts.keeps {
+        array.locks.fill(array.consts.has_locks);
+    }
 }
 
 fn apply_done(array: &mut PlainArray, op: &Op)
-    requires { is_outside array.old op.now ≡ false }
+    requires { is_outside array.old (needs_of op.now).reach ≡ false }
     ensures { array.new ≡ after_done op.now array.old }
 {
     match op {
@@ -64,23 +70,28 @@ fn apply_done(array: &mut PlainArray, op: &Op)
             });
         }
         Op::PowerOn => power_on(array),
-        Op::Read { .. } | Op::EraseOpen { .. } | Op::Poll | Op::IsLocked { .. } => {}
+        _ => {}
     }
 }
 
 fn apply_opened(array: &mut PlainArray, op: &Op, caller: u8)
-    requires { is_outside array.old op.now ≡ false }
+    requires { is_outside array.old (needs_of op.now).reach ≡ false }
     ensures { array.new ≡ after_opened op.now caller array.old }
 {
-    if let Op::EraseOpen { block } = op {
-        array.under = Some(OpenErase {
-            block: *block,
-            caller,
-        });
+    match op {
+        Op::EraseOpen { block } => {
+            let target = Target::OneBlock { block: *block };
+            array.under = Some(OpenErase { target, caller });
+        }
+        Op::EraseAll => {
+            let target = Target::AllBlocks;
+            array.under = Some(OpenErase { target, caller });
+        }
+        _ => {}
     }
 }
 
-// The block under erase gets these bytes, and no block is under erase any more.
+// What is under erase gets these bytes, and nothing is under erase any more.
 fn close(array: &mut PlainArray, bytes: &[u8])
     requires { length bytes.now ≡ (open_span array.old).len }
     ensures { array.new ≡ closed bytes.now array.old }
@@ -124,13 +135,23 @@ fn power_of(cause: Halted) -> Power
     }
 }
 
+// Whether the byte says that the block stands locked.
+fn names_locked(left: &[u8]) -> bool
+    ensures { result ≡ names_locked left.now }
+{
+    byte_at(left, 0) == 1
+}
+
 // What a halt leaves of the call's own work.
 fn leave(array: &mut PlainArray, op: &Op, left: &[u8])
-    requires { LeftFits op.now (length (array.old).bytes) (length left.now) }
-    ensures { array.new ≡ record array.old { bytes = halted_bytes op.now left.now (array.old).bytes } }
+    requires { LeftFits op.now array.old left.now }
+    ensures { array.new ≡ left_by op.now left.now array.old }
 {
-    if let Op::Program { at, .. } = op {
-        put(array, *at, left);
+    match op {
+        Op::Program { at, .. } => put(array, *at, left),
+        Op::Lock { block } => set_lock(array, *block, names_locked(left)),
+        Op::Unlock { block } => set_lock(array, *block, names_locked(left)),
+        _ => {}
     }
 }
 
@@ -160,7 +181,8 @@ pub fn apply(array: &mut PlainArray, entry: &Entry)
         Reply::Failed { from, .. } => apply_failed(array, op, from, bytes),
         Reply::Halted(cause) => apply_halted(array, cause, op, bytes),
         Reply::Bit(_) | Reply::Locked { .. } | Reply::NotYet => {}
-        Reply::OutOfRange | Reply::TooLong | Reply::NoLocks | Reply::Nothing => {}
+        Reply::OutOfRange | Reply::TooLong | Reply::Nothing => {}
+        Reply::NoLocks | Reply::NoChipErase => {}
         Reply::Busy { .. } | Reply::Occupied { .. } => {}
     }
 }

@@ -9,6 +9,8 @@ pub enum Op {
     Program { at: u32, new: Bytes },
     /// The erase of a block is begun. It goes on until its caller polls its end.
     EraseOpen { block: u32 },
+    /// The same of all blocks at once.
+    EraseAll,
     Poll,
     Lock { block: u32 },
     Unlock { block: u32 },
@@ -33,23 +35,25 @@ pub enum Halted {
 pub enum Reply {
     #[default]
     Done,
-    /// The block is under erase for this caller.
+    /// The block, or all of them, are under erase for this caller.
     Opened,
-    /// Every byte of the block is 0xFF.
+    /// Every byte of what was under erase is 0xFF.
     Erased,
     /// Whether the block is locked.
     Bit(bool),
     OutOfRange,
     /// A read or a program of more than 4,096 bytes.
     TooLong,
-    /// The call touches this block, which is under erase.
+    /// This block, the lowest such that the call touches, is under erase.
     Busy { block: u32 },
-    /// Another block, this one, is under erase.
+    /// Another erase is under way: this block is the lowest under erase.
     Occupied { block: u32 },
     /// This block, the lowest such that the call touches, is locked.
     Locked { block: u32 },
     /// The bank offers no locks.
     NoLocks,
+    /// The bank offers no erase of all blocks at once.
+    NoChipErase,
     /// The caller has no erase to poll, or power is on already.
     Nothing,
     /// The chips still work: ask again.
@@ -62,8 +66,9 @@ pub enum Reply {
 
 /// A call by a caller, 1 to 8, with its reply; `Arm` and `PowerOn` have caller 0. The bytes are the
 /// data of a read that is done, and what stands in the uncertain spans after a failure and after a
-/// first halt: there those of the block under erase, if any, and then those of the call's own
-/// program range. Every other entry has no bytes.
+/// first halt: there those of what is under erase, if anything, then those of the call's own program
+/// range, then for a `Lock` or `Unlock` one more, 1 where the block stands locked, else 0. Every
+/// other entry has no bytes.
 #[derive(Clone, Debug, PartialEq, Eq, Drop)]
 pub struct Entry {
     pub caller: u8,

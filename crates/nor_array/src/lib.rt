@@ -3,9 +3,10 @@
 //! This is what a reader must believe; everything else is proved against it. It is one list of bytes
 //! and one list of whole calls, and knows no lanes at work, command codes, status bits, polls of
 //! chips or turns. The definitions of `specs/`:
-//! - `Array`: what an array is, and its opening. It has bytes, a lock for each block, the block
+//! - `Array`: what an array is, and its opening. It has bytes, a lock for each block, what is
 //!   under erase with its caller, power, and the cut that was armed.
 //! - `After`: what an entry, which is a call with its reply, makes of an array.
+//! - `Needs`: what each call needs, the one table that the next two go by.
 //! - `Refusals`: the replies that the array and the call alone decide, in their order.
 //! - `Admits`: which entries an array admits, and so which bytes a loss of power, a stuck chip or a
 //!   weak place may leave.
@@ -27,7 +28,10 @@ mod bytes;
 mod bytes_edits;
 mod change;
 mod entry;
+#[cfg(test)]
+mod halt_tests;
 mod laws;
+mod needs;
 mod program;
 mod refuse;
 mod state;
@@ -41,4 +45,4 @@ pub use change::apply;
 pub use entry::{Entry, Halted, Op, Reply};
 pub use laws::{calls_are_answered, entries_change_what_they_name, histories_grow_at_the_end};
 pub use refuse::MAX_LEN;
-pub use state::{ArmedCut, OpenErase, Power};
+pub use state::{ArmedCut, OpenErase, Power, Target};

@@ -10,7 +10,7 @@ use crate::{PlainArray, Reply};
 use nor_cell::{Span, is_between};
 
 // The byte at a place, and 0 behind the end.
-fn byte_at(bytes: &[u8], at: usize) -> u8
+pub(crate) fn byte_at(bytes: &[u8], at: usize) -> u8
     ensures { result ≡ slice_index bytes.now at }
 {
     if at < bytes.len() { bytes[at] } else { 0 }

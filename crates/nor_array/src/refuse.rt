@@ -1,9 +1,12 @@
 //! The refusals that the array and the call alone decide.
-ghost use Rattle.std.specs.Prelude.{◌≡◌, None};
-ghost use Rattle.nor_array.specs.Array.{span_of, is_on, meets};
-ghost use Rattle.nor_array.specs.Refusals.{is_outside, is_too_long, is_power_on, kept_halt, owns, has_nothing, touches, opens_erase, while_open, needs_locks, refusal};
+ghost use Rattle.std.specs.Prelude.{◌≡◌, [], ◌∷◌, ◌&&◌, length, not, None};
+ghost use Rattle.nor_cell.specs.Chip.{covered, AllBlocks};
+ghost use Rattle.nor_array.specs.Array.{span_of, is_on, lowest, meets};
+ghost use Rattle.nor_array.specs.Refusals.{is_outside, is_too_long, is_power_on, kept_halt, owns, has_nothing, touches, touched_open, first_busy, first_open, while_open, when, first_some, refusal};
+ghost use Rattle.nor_array.specs.declared.entry.Reply.TheVariants.{NoLocks, NoChipErase};
 
-use crate::{Halted, Op, PlainArray, Power, Reply};
+use crate::needs::{CallNeeds, Reach, needs_of};
+use crate::{Halted, Op, OpenErase, PlainArray, Power, Reply, Target};
 use nor_cell::Span;
 
 /// The most bytes of a read or a program.
@@ -29,30 +32,38 @@ pub(crate) fn span_of(array: &PlainArray, block: u32) -> Span
     }
 }
 
-fn is_outside(array: &PlainArray, op: &Op) -> bool
-    ensures { result ≡ is_outside array.now op.now }
+pub(crate) fn blocks(array: &PlainArray) -> u32
+    ensures { result ≡ length (array.now).consts.blocks }
 {
-    let size = array.bytes.len() as u64;
-    let blocks = array.consts.map.blocks();
-    match op {
-        Op::Read { at, len } => size < u64::from(*at) + u64::from(*len),
-        Op::Program { at, new } => size < u64::from(*at) + new.as_slice().len() as u64,
-        Op::EraseOpen { block } => blocks <= *block,
-        Op::Lock { block } => blocks <= *block,
-        Op::Unlock { block } => blocks <= *block,
-        Op::IsLocked { block } => blocks <= *block,
-        Op::Poll => false,
-        Op::Arm { .. } => false,
-        Op::PowerOn => false,
+    array.consts.map.blocks()
+}
+
+// The bytes of all blocks.
+pub(crate) fn all_blocks(array: &PlainArray) -> Span
+    ensures { result ≡ covered AllBlocks (array.now).consts.blocks }
+{
+    Span {
+        from: 0,
+        len: array.consts.map.size(),
     }
 }
 
-fn is_too_long(op: &Op) -> bool
-    ensures { result ≡ is_too_long op.now }
+fn is_outside(array: &PlainArray, reach: Reach) -> bool
+    ensures { result ≡ is_outside array.now reach }
 {
-    match op {
-        Op::Read { len, .. } => *len as usize > MAX_LEN,
-        Op::Program { new, .. } => new.as_slice().len() > MAX_LEN,
+    let size = array.bytes.len() as u64;
+    match reach {
+        Reach::Nowhere | Reach::Everywhere => false,
+        Reach::Range { at, len } => size < u64::from(at) || size - u64::from(at) < len as u64,
+        Reach::Block { block } => blocks(array) <= block,
+    }
+}
+
+fn is_too_long(reach: Reach) -> bool
+    ensures { result ≡ is_too_long reach }
+{
+    match reach {
+        Reach::Range { len, .. } => len > MAX_LEN,
         _ => false,
     }
 }
@@ -109,60 +120,101 @@ fn has_nothing(array: &PlainArray, caller: u8, op: &Op) -> bool
     }
 }
 
-// Whether the call touches the block.
-pub(crate) fn touches(array: &PlainArray, op: &Op, block: u32) -> bool
-    ensures { result ≡ touches array.now op.now block }
+// Whether the block is touched.
+pub(crate) fn touches(array: &PlainArray, reach: Reach, block: u32) -> bool
+    ensures { result ≡ touches array.now reach block }
 {
-    match op {
-        Op::Read { at, len } => meets(*at, *len as usize, span_of(array, block)),
-        Op::Program { at, new } => meets(*at, new.as_slice().len(), span_of(array, block)),
-        Op::EraseOpen { block: other } => *other == block,
-        Op::Lock { block: other } => *other == block,
-        Op::Unlock { block: other } => *other == block,
-        Op::IsLocked { block: other } => *other == block,
-        Op::Poll => false,
-        Op::Arm { .. } => false,
-        Op::PowerOn => false,
+    match reach {
+        Reach::Nowhere => false,
+        Reach::Range { at, len } => meets(at, len, span_of(array, block)),
+        Reach::Block { block: other } => other == block,
+        Reach::Everywhere => true,
     }
 }
 
-fn opens_erase(op: &Op) -> bool
-    ensures { result ≡ opens_erase op.now }
+// The lowest block that is touched.
+fn lowest_touched(array: &PlainArray, reach: Reach) -> Option<u32>
+    ensures { result ≡ lowest (touches array.now reach) 0 (length (array.now).consts.blocks) }
 {
-    matches!(op, Op::EraseOpen { .. })
+    for block in 0..blocks(array) {
+        if touches(array, reach, block) {
+            return Some(block);
+        }
+    }
+    None
 }
 
-// The block under erase is touched, or another one is to be erased.
-fn while_open(array: &PlainArray, op: &Op) -> Option<Reply>
-    ensures { result ≡ while_open (array.now).under array.now op.now }
+// The lowest block under erase that is touched.
+fn touched_open(array: &PlainArray, target: Target, reach: Reach) -> Option<u32>
+    ensures { result ≡ touched_open target array.now reach }
+{
+    match target {
+        Target::OneBlock { block } if touches(array, reach, block) => Some(block),
+        Target::OneBlock { .. } => None,
+        Target::AllBlocks => lowest_touched(array, reach),
+    }
+}
+
+// The same, but for a call that would erase all blocks.
+fn first_busy(array: &PlainArray, erase: OpenErase, needs: CallNeeds) -> Option<u32>
+    ensures { result ≡ first_busy erase array.now needs }
+{
+    if needs.chip_erase {
+        None
+    } else {
+        touched_open(array, erase.target, needs.reach)
+    }
+}
+
+// The lowest block under erase.
+fn first_open(target: Target) -> u32
+    ensures { result ≡ first_open target }
+{
+    match target {
+        Target::OneBlock { block } => block,
+        Target::AllBlocks => 0,
+    }
+}
+
+// A block under erase is touched, or another erase would begin.
+fn while_open(array: &PlainArray, needs: CallNeeds) -> Option<Reply>
+    ensures { result ≡ while_open (array.now).under array.now needs }
 {
     let open = array.under?;
-    if touches(array, op, open.block) {
-        Some(Reply::Busy { block: open.block })
-    } else if opens_erase(op) {
-        Some(Reply::Occupied { block: open.block })
+    match first_busy(array, open, needs) {
+        Some(block) => Some(Reply::Busy { block }),
+        None if needs.opens => Some(Reply::Occupied {
+            block: first_open(open.target),
+        }),
+        None => None,
+    }
+}
+
+// What the bank doesn't offer.
+fn not_offered(array: &PlainArray, needs: CallNeeds) -> Option<Reply>
+    ensures { result ≡ first_some
+        (when (needs.locks && not (array.now).consts.has_locks) NoLocks
+        ∷ when (needs.chip_erase && not (array.now).consts.has_chip_erase) NoChipErase
+        ∷ []) }
+{
+    if needs.locks && !array.consts.has_locks {
+        Some(Reply::NoLocks)
+    } else if needs.chip_erase && !array.consts.has_chip_erase {
+        Some(Reply::NoChipErase)
     } else {
         None
     }
-}
-
-fn needs_locks(op: &Op) -> bool
-    ensures { result ≡ needs_locks op.now }
-{
-    matches!(
-        op,
-        Op::Lock { .. } | Op::Unlock { .. } | Op::IsLocked { .. }
-    )
 }
 
 // The first refusal of a call that holds.
 pub(crate) fn refusal(array: &PlainArray, caller: u8, op: &Op) -> Option<Reply>
     ensures { result ≡ refusal array.now caller op.now }
 {
-    if is_outside(array, op) {
+    let needs = needs_of(op);
+    if is_outside(array, needs.reach) {
         return Some(Reply::OutOfRange);
     }
-    if is_too_long(op) {
+    if is_too_long(needs.reach) {
         return Some(Reply::TooLong);
     }
     if let Some(reply) = kept_halt(array, op) {
@@ -171,11 +223,8 @@ pub(crate) fn refusal(array: &PlainArray, caller: u8, op: &Op) -> Option<Reply>
     if has_nothing(array, caller, op) {
         return Some(Reply::Nothing);
     }
-    if let Some(reply) = while_open(array, op) {
+    if let Some(reply) = while_open(array, needs) {
         return Some(reply);
     }
-    if needs_locks(op) && !array.consts.has_locks {
-        return Some(Reply::NoLocks);
-    }
-    None
+    not_offered(array, needs)
 }

@@ -1,9 +1,16 @@
 //! What an array is, beside its bytes and locks.
 
-/// A block under erase, and the caller that opened the erase.
+/// What an erase is of.
+#[derive(Clone, Copy, Debug, PartialEq, Eq)]
+pub enum Target {
+    OneBlock { block: u32 },
+    AllBlocks,
+}
+
+/// What is under erase, and the caller that opened the erase.
 #[derive(Clone, Copy, Debug, PartialEq, Eq)]
 pub struct OpenErase {
-    pub block: u32,
+    pub target: Target,
     pub caller: u8,
 }
 

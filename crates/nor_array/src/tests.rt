@@ -9,7 +9,7 @@ use std::alloc::Global;
 use std::process::Abort;
 use std::test::Fail;
 
-const OTHERS: [Reply; 22] = [
+const OTHERS: [Reply; 23] = [
     Reply::Done,
     Reply::Opened,
     Reply::Erased,
@@ -24,6 +24,7 @@ const OTHERS: [Reply; 22] = [
     Reply::Locked { block: 0 },
     Reply::Locked { block: 1 },
     Reply::NoLocks,
+    Reply::NoChipErase,
     Reply::Nothing,
     Reply::NotYet,
     Reply::Failed {
@@ -40,13 +41,39 @@ const OTHERS: [Reply; 22] = [
 
 // An array, and memory for what it is asked.
 #[derive(Drop)]
-struct Trial {
-    array: PlainArray,
-    alloc: Global,
+pub(crate) struct Trial {
+    pub(crate) array: PlainArray,
+    pub(crate) alloc: Global,
 }
 
-// Eight blocks of 1,024 bytes of 0xFF, with a weak device word in block 1. Each lock stands as told.
-fn bank(alloc: Global, has_locks: bool, locked: bool) -> Result<Trial, Fail> {
+// What power-on does to the locks, and which erases are offered.
+#[derive(Clone, Copy)]
+pub(crate) struct Offer {
+    locks: bool,
+    keeps: bool,
+    chip_erase: bool,
+}
+
+pub(crate) const KEPT_LOCKS: Offer = Offer {
+    locks: true,
+    keeps: true,
+    chip_erase: true,
+};
+
+pub(crate) const SET_LOCKS: Offer = Offer {
+    locks: true,
+    keeps: false,
+    chip_erase: false,
+};
+
+const NO_LOCKS: Offer = Offer {
+    locks: false,
+    keeps: false,
+    chip_erase: false,
+};
+
+// Eight blocks of 1,024 bytes of 0xFF, with a weak device word in block 1. At the opening each lock stands as told.
+pub(crate) fn bank(alloc: Global, offer: Offer, locked: bool) -> Result<Trial, Fail> {
     let region = Region {
         count: 8,
         size: 1024,
@@ -59,8 +86,10 @@ fn bank(alloc: Global, has_locks: bool, locked: bool) -> Result<Trial, Fail> {
     let weak = vec![in alloc; word]?;
     let consts = Consts {
         map,
-        has_locks,
-        locked,
+        has_locks: offer.locks,
+        locked: vec![in alloc; locked; 8]?,
+        keeps: offer.keeps,
+        has_chip_erase: offer.chip_erase,
         weak,
     };
     let array = plain(alloc, &[0xFF; 8192], consts)?;
@@ -68,12 +97,18 @@ fn bank(alloc: Global, has_locks: bool, locked: bool) -> Result<Trial, Fail> {
 }
 
 impl Trial {
-    fn program(&self, at: u32, new: &[u8]) -> Result<Op, NoMemory> {
+    pub(crate) fn program(&self, at: u32, new: &[u8]) -> Result<Op, NoMemory> {
         let new = make_bytes(self.alloc, new)?;
         Ok(Op::Program { at, new })
     }
 
-    fn entry(&self, caller: u8, op: Op, reply: Reply, bytes: &[u8]) -> Result<Entry, NoMemory> {
+    pub(crate) fn entry(
+        &self,
+        caller: u8,
+        op: Op,
+        reply: Reply,
+        bytes: &[u8],
+    ) -> Result<Entry, NoMemory> {
         let bytes = make_bytes(self.alloc, bytes)?;
         Ok(Entry {
             caller,
@@ -83,25 +118,37 @@ impl Trial {
         })
     }
 
-    fn admits(&self, entry: &Entry) -> bool {
+    pub(crate) fn admits(&self, entry: &Entry) -> bool {
         admits(&self.array, entry)
     }
 
     // The array admits the entry, and goes on as it says.
-    fn goes_on(&mut self, rt: &impl Abort, entry: &Entry) {
+    pub(crate) fn goes_on(&mut self, rt: &impl Abort, entry: &Entry) {
         assert!(rt; admits(&self.array, entry));
         apply(&mut self.array, entry);
     }
 
     // The same with no bytes.
-    fn does(&mut self, rt: &impl Abort, caller: u8, op: Op, reply: Reply) -> Result<(), NoMemory> {
+    pub(crate) fn does(
+        &mut self,
+        rt: &impl Abort,
+        caller: u8,
+        op: Op,
+        reply: Reply,
+    ) -> Result<(), NoMemory> {
         let entry = self.entry(caller, op, reply, &[])?;
         self.goes_on(rt, &entry);
         Ok(())
     }
 
     // This reply is admitted with no bytes, and neither another one nor a byte with it.
-    fn answers(&self, rt: &impl Abort, caller: u8, op: Op, reply: Reply) -> Result<(), NoMemory> {
+    pub(crate) fn answers(
+        &self,
+        rt: &impl Abort,
+        caller: u8,
+        op: Op,
+        reply: Reply,
+    ) -> Result<(), NoMemory> {
         let mut told = self.entry(caller, op, reply, &[])?;
         assert!(rt; self.admits(&told), "{reply:?}");
         for other in OTHERS {
@@ -118,7 +165,7 @@ impl Trial {
     }
 
     // The byte at a place.
-    fn byte(&self, at: usize) -> Option<u8> {
+    pub(crate) fn byte(&self, at: usize) -> Option<u8> {
         bytes_of(&self.array).get(at).copied()
     }
 }
@@ -133,7 +180,9 @@ fn a_program_and_a_read(rt: HostRuntime) -> Result<(), Fail> {
     let consts = Consts {
         map: block_map(&[region], false, 4096)?,
         has_locks: false,
-        locked: false,
+        locked: vec![in alloc; false]?,
+        keeps: false,
+        has_chip_erase: false,
         weak: Vec::new(alloc),
     };
     let array = plain(alloc, &[0xFF; 4096], consts)?;
@@ -152,7 +201,7 @@ fn a_program_and_a_read(rt: HostRuntime) -> Result<(), Fail> {
 
 #[test]
 fn refusals_come_in_their_order(rt: HostRuntime) -> Result<(), Fail> {
-    let mut trial = bank(rt.alloc(), true, false)?;
+    let mut trial = bank(rt.alloc(), KEPT_LOCKS, false)?;
     trial.does(&rt, 1, Op::EraseOpen { block: 2 }, Reply::Opened)?;
     // Each is the next one's reason too, or wrong by one byte, one block or one caller.
     for (caller, at, len, reply) in [
@@ -184,7 +233,7 @@ fn refusals_come_in_their_order(rt: HostRuntime) -> Result<(), Fail> {
 
 #[test]
 fn locks_are_offered_or_not(rt: HostRuntime) -> Result<(), Fail> {
-    let mut trial = bank(rt.alloc(), true, true)?;
+    let mut trial = bank(rt.alloc(), SET_LOCKS, true)?;
     let locked = Reply::Locked { block: 0 };
     trial.answers(&rt, 1, trial.program(0x3FF, &[0, 0])?, locked)?;
     trial.answers(&rt, 1, Op::IsLocked { block: 1 }, Reply::Bit(true))?;
@@ -196,7 +245,7 @@ fn locks_are_offered_or_not(rt: HostRuntime) -> Result<(), Fail> {
     trial.does(&rt, 1, Op::Lock { block: 0 }, Reply::Done)?;
     trial.answers(&rt, 1, Op::IsLocked { block: 0 }, Reply::Bit(true))?;
     trial.answers(&rt, 1, Op::EraseOpen { block: 1 }, locked)?;
-    let none = bank(rt.alloc(), false, false)?;
+    let none = bank(rt.alloc(), NO_LOCKS, false)?;
     none.answers(&rt, 1, Op::Lock { block: 0 }, Reply::NoLocks)?;
     none.answers(&rt, 1, Op::IsLocked { block: 0 }, Reply::NoLocks)?;
     Ok(())
@@ -204,7 +253,7 @@ fn locks_are_offered_or_not(rt: HostRuntime) -> Result<(), Fail> {
 
 #[test]
 fn a_read_beside_an_open_block_has_choices(rt: HostRuntime) -> Result<(), Fail> {
-    let mut trial = bank(rt.alloc(), true, false)?;
+    let mut trial = bank(rt.alloc(), KEPT_LOCKS, false)?;
     let mut told = trial.entry(2, Op::Read { at: 0x7FE, len: 2 }, Reply::NotYet, &[])?;
     let stuck = Reply::Halted(Halted::Stuck { lane: 1 });
     assert!(rt; !trial.admits(&told));
@@ -228,15 +277,24 @@ fn a_read_beside_an_open_block_has_choices(rt: HostRuntime) -> Result<(), Fail> 
 
 #[test]
 fn a_lock_beside_an_open_block_has_choices(rt: HostRuntime) -> Result<(), Fail> {
-    let mut trial = bank(rt.alloc(), true, false)?;
+    let mut trial = bank(rt.alloc(), KEPT_LOCKS, false)?;
     let mut told = trial.entry(2, Op::Lock { block: 3 }, Reply::NotYet, &[])?;
     let stuck = Reply::Halted(Halted::Stuck { lane: 1 });
     assert!(rt; !trial.admits(&told));
     told.reply = stuck;
     assert!(rt; !trial.admits(&told));
     trial.does(&rt, 1, Op::EraseOpen { block: 2 }, Reply::Opened)?;
-    for (len, fits) in [(0, false), (1023, false), (1025, false), (1024, true)] {
-        let left = vec![in trial.alloc; 7; len]?;
+    // The old bit comes after the bytes of the block.
+    for (len, last, fits) in [
+        (0, 0, false),
+        (1023, 0, false),
+        (1025, 0, false),
+        (1024, 0, true),
+        (1024, 1, false),
+        (1024, 7, false),
+    ] {
+        let mut left = vec![in trial.alloc; 7; len]?;
+        left.push(last)?;
         told.bytes = make_bytes(trial.alloc, &left)?;
         assert_eq!(rt; trial.admits(&told), fits);
     }
@@ -251,7 +309,7 @@ fn a_lock_beside_an_open_block_has_choices(rt: HostRuntime) -> Result<(), Fail> 
 
 #[test]
 fn an_erase_ends_with_ones(rt: HostRuntime) -> Result<(), Fail> {
-    let mut trial = bank(rt.alloc(), true, false)?;
+    let mut trial = bank(rt.alloc(), KEPT_LOCKS, false)?;
     let op = trial.program(0x7FF, &[0, 0])?;
     trial.does(&rt, 1, op, Reply::Done)?;
     trial.does(&rt, 1, Op::EraseOpen { block: 2 }, Reply::Opened)?;
@@ -273,7 +331,7 @@ fn an_erase_ends_with_ones(rt: HostRuntime) -> Result<(), Fail> {
 
 #[test]
 fn an_erase_over_a_weak_place_fails(rt: HostRuntime) -> Result<(), Fail> {
-    let mut trial = bank(rt.alloc(), true, false)?;
+    let mut trial = bank(rt.alloc(), KEPT_LOCKS, false)?;
     trial.does(&rt, 1, Op::EraseOpen { block: 1 }, Reply::Opened)?;
     let mut told = trial.entry(1, Op::Poll, Reply::Erased, &[])?;
     assert!(rt; !trial.admits(&told));
@@ -298,7 +356,7 @@ fn an_erase_over_a_weak_place_fails(rt: HostRuntime) -> Result<(), Fail> {
 
 #[test]
 fn a_program_over_a_weak_place_fails_there(rt: HostRuntime) -> Result<(), Fail> {
-    let mut trial = bank(rt.alloc(), true, false)?;
+    let mut trial = bank(rt.alloc(), KEPT_LOCKS, false)?;
     // It would change only where a datum lacks a bit.
     let spared = [0, 0xFF, 0xFF, 0];
     trial.answers(&rt, 1, trial.program(0x403, &spared)?, Reply::Done)?;
@@ -334,114 +392,36 @@ fn a_program_over_a_weak_place_fails_there(rt: HostRuntime) -> Result<(), Fail> 
 }
 
 #[test]
-fn arming_a_cut_is_done_at_once(rt: HostRuntime) -> Result<(), Fail> {
-    let mut trial = bank(rt.alloc(), true, false)?;
-    // It asks nothing of the chips: neither an armed cut nor an open block gives another reply.
-    trial.does(&rt, 0, Op::Arm { after: 7, mask: 0 }, Reply::Done)?;
-    trial.answers(&rt, 0, Op::Arm { after: 8, mask: 0 }, Reply::Done)?;
-    trial.does(&rt, 1, Op::EraseOpen { block: 2 }, Reply::Opened)?;
-    trial.answers(&rt, 0, Op::Arm { after: 8, mask: 0 }, Reply::Done)?;
-    Ok(())
-}
-
-#[test]
-fn power_on_locks_every_block(rt: HostRuntime) -> Result<(), Fail> {
-    let mut trial = bank(rt.alloc(), true, true)?;
-    for block in 0..8 {
-        trial.does(&rt, 1, Op::Unlock { block }, Reply::Done)?;
+fn all_blocks_are_erased_at_once(rt: HostRuntime) -> Result<(), Fail> {
+    let mut trial = bank(rt.alloc(), KEPT_LOCKS, false)?;
+    trial.does(&rt, 1, Op::Lock { block: 5 }, Reply::Done)?;
+    let locked = Reply::Locked { block: 5 };
+    trial.answers(&rt, 1, Op::EraseAll, locked)?;
+    trial.does(&rt, 1, Op::Unlock { block: 5 }, Reply::Done)?;
+    trial.does(&rt, 1, Op::EraseAll, Reply::Opened)?;
+    // Each call is told the lowest block that it touches, and another erase of all blocks the lowest of all.
+    for (op, reply) in [
+        (Op::Read { at: 0x1801, len: 1 }, Reply::Busy { block: 6 }),
+        (Op::Read { at: 0x7FF, len: 2 }, Reply::Busy { block: 1 }),
+        (Op::EraseOpen { block: 1 }, Reply::Busy { block: 1 }),
+        (Op::IsLocked { block: 7 }, Reply::Busy { block: 7 }),
+        (Op::EraseAll, Reply::Occupied { block: 0 }),
+        (Op::Poll, Reply::Nothing),
+    ] {
+        trial.answers(&rt, 2, op, reply)?;
     }
-    trial.does(&rt, 0, Op::Arm { after: 7, mask: 0 }, Reply::Done)?;
-    let off = Reply::Halted(Halted::Off { after: 7 });
-    trial.does(&rt, 1, Op::Read { at: 0, len: 1 }, off)?;
-    trial.does(&rt, 0, Op::PowerOn, Reply::Done)?;
-    for block in 0..8 {
-        trial.answers(&rt, 1, Op::IsLocked { block }, Reply::Bit(true))?;
-    }
-    Ok(())
-}
-
-#[test]
-fn power_is_lost_in_a_program_beside_an_erase(rt: HostRuntime) -> Result<(), Fail> {
-    let mut trial = bank(rt.alloc(), true, false)?;
-    trial.does(&rt, 2, Op::Lock { block: 5 }, Reply::Done)?;
-    let by_a_caller = trial.entry(1, Op::Arm { after: 7, mask: 0 }, Reply::Done, &[])?;
-    assert!(rt; !trial.admits(&by_a_caller));
-    trial.does(&rt, 0, Op::Arm { after: 7, mask: 0 }, Reply::Done)?;
-    trial.does(&rt, 1, Op::EraseOpen { block: 2 }, Reply::Opened)?;
-    let off = Reply::Halted(Halted::Off { after: 7 });
-    let mut left = vec![in trial.alloc; 0xA5; 1024]?;
-    let mut told = trial.entry(2, trial.program(0x7FE, &[0x0F, 0])?, off, &left)?;
-    assert!(rt; !trial.admits(&told));
-    for byte in [0x3F, 0x81] {
-        left.push(byte)?;
-    }
-    told.bytes = make_bytes(trial.alloc, &left)?;
-    assert!(rt; trial.admits(&told));
-    told.reply = Reply::Halted(Halted::Off { after: 8 });
-    assert!(rt; !trial.admits(&told));
-    told.reply = off;
+    let failed = Reply::Failed {
+        from: 0,
+        to: 8192,
+        lanes: 1,
+    };
+    let told = trial.entry(1, Op::Poll, failed, &[0xA5; 8192])?;
     trial.goes_on(&rt, &told);
-    for (at, left) in [
-        (0x7FD, 0xFF),
-        (0x7FE, 0x3F),
-        (0x7FF, 0x81),
-        (0x800, 0xA5),
-        (0xBFF, 0xA5),
-        (0xC00, 0xFF),
-    ] {
-        assert_eq!(rt; trial.byte(at), Some(left));
+    for at in [0, 8191] {
+        assert_eq!(rt; trial.byte(at), Some(0xA5));
     }
-    // The halt is kept, with the number of the cut, until power is on again.
-    for op in [
-        Op::Poll,
-        Op::Arm { after: 0, mask: 0 },
-        Op::Read { at: 0, len: 0 },
-    ] {
-        let caller = if op == Op::Poll { 1 } else { 0 };
-        trial.answers(&rt, caller, op, off)?;
-    }
-    trial.does(&rt, 0, Op::PowerOn, Reply::Done)?;
-    trial.answers(&rt, 1, Op::IsLocked { block: 5 }, Reply::Bit(false))?;
-    trial.answers(&rt, 1, Op::EraseOpen { block: 3 }, Reply::Opened)?;
-    Ok(())
-}
-
-#[test]
-fn a_bit_above_the_old_one_is_never_left(rt: HostRuntime) -> Result<(), Fail> {
-    let mut trial = bank(rt.alloc(), true, false)?;
-    let op = trial.program(0, &[0x7F])?;
-    trial.does(&rt, 1, op, Reply::Done)?;
-    let stuck = Reply::Halted(Halted::Stuck { lane: 3 });
-    let mut told = trial.entry(1, trial.program(0, &[0xF0])?, stuck, &[])?;
-    for (left, fits) in [
-        (0x7F, true),
-        (0x70, true),
-        (0xF0, false),
-        (0x60, false),
-        (0xFF, false),
-    ] {
-        told.bytes = make_bytes(trial.alloc, &[left])?;
-        assert_eq!(rt; trial.admits(&told), fits, "{left}");
-    }
-    told.bytes = make_bytes(trial.alloc, &[0x75])?;
-    trial.goes_on(&rt, &told);
-    assert_eq!(rt; trial.byte(0), Some(0x75));
-    // Nothing leads back from a chip that is stuck.
-    trial.answers(&rt, 0, Op::PowerOn, stuck)?;
-    Ok(())
-}
-
-#[test]
-fn a_locked_block_keeps_its_bytes_in_a_halt(rt: HostRuntime) -> Result<(), Fail> {
-    let mut trial = bank(rt.alloc(), true, false)?;
-    trial.does(&rt, 1, Op::Lock { block: 0 }, Reply::Done)?;
-    let stuck = Reply::Halted(Halted::Stuck { lane: 0 });
-    let mut told = trial.entry(1, trial.program(0, &[0])?, stuck, &[0x7F])?;
-    assert!(rt; !trial.admits(&told));
-    told.bytes = make_bytes(trial.alloc, &[0xFF])?;
-    assert!(rt; trial.admits(&told));
-    let copy = told.clone()?;
-    assert!(rt; copy == told);
+    let none = bank(rt.alloc(), SET_LOCKS, true)?;
+    none.answers(&rt, 1, Op::EraseAll, Reply::NoChipErase)?;
     Ok(())
 }
 

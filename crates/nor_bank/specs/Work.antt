@@ -4,7 +4,7 @@ use Rattle.std.specs.Option.{option_or, option_map}
 use Rattle.nor_bus.specs.Bus.{BusState, more}
 use Rattle.nor_bus.specs.declared.bus.Armed.{Armed}
 use Rattle.nor_bus.specs.Cycles.{BusFails, KeepsLanes}
-use Rattle.nor_bus.specs.Driven.{AllLanes, Went}
+use Rattle.nor_bus.specs.Driven.{AllLanes, Went, IsDue}
 use Rattle.nor_array.specs.Array.{ArrayState, is_locked}
 use Rattle.nor_array.specs.Refusals.{when, first_some}
 use Rattle.nor_array.specs.declared.entry.Halted.{Halted as HaltCause}
@@ -20,10 +20,12 @@ use Rattle.nor_bank.specs.Ranges.{words_met}
 use Rattle.nor_bank.specs.Stands.{Stands}
 use Rattle.nor_bank.specs.State.{BankState, size_of}
 
--- At most so many cycles were asked for, the one that failed among them.
+-- At most so many cycles were asked for, the one that failed among them. Where power went, it was by an armed cut that came
+-- within them.
 pub record Asks (most : ℕ) (old new : BusState) : Type 0 where
   pub cycles : new.cycles ≤ old.cycles + most
   pub failing : new.failed ≢ old.failed → new.cycles < old.cycles + most
+  pub due : old.power ≡ true → new.power ≡ false → IsDue most old.armed
 
 -- an armed cut that is no further away than it was
 abbrev pub NoFurther : Option Armed → Option Armed → Type 0

@@ -1,16 +1,18 @@
 -- Cycles of a bus whose geometry is known.
-use Rattle.std.proofs.Common.{not, false, Bool, List, length, IsTrue, true, ◌==◌, ◌&&◌, ◌||◌, ◌≡◌, ◌<◌, ◌≤◌, ◌+◌, ◌*◌, ℕ, zero, suc, replicate, slice_index, refl, sym, ap, subst, ◌∙◌, arith, Option, Some, None}
+use Rattle.std.proofs.Common.{not, false, Bool, List, [], ◌∷◌, ◌/◌, length, IsTrue, true, ◌==◌, ◌&&◌, ◌||◌, ◌⊎◌, inl, inr, ◌≡◌, ◌<◌, ◌≤◌, ◌+◌, ◌*◌, ℕ, zero, suc, replicate, slice_index, refl, sym, ap, subst, ◌∙◌, arith, Option, Some, None}
+use Rattle.std.proofs.Math.Nat.{mod-eq_of_lt}
 use Rattle.nor_cell.specs.Bits.{unit_len}
-use Rattle.nor_cell.specs.Chip.{ChipState, Part}
+use Rattle.nor_cell.specs.Chip.{ChipState, Part, units}
+use Rattle.nor_cell.specs.Steps.{Keeps}
 use Rattle.nor_cell.specs.Wiring.{is_wiring}
 use Rattle.nor_cell.specs.declared.geometry.Geometry.{Geometry}
 use Rattle.nor_cell.specs.declared.device.Device.{Device}
 use Rattle.nor_cell.specs.declared.device.Device.TheVariants.{X8, X16, X16Byte}
 use Rattle.nor_word.specs.Word.{lane_of}
 use Rattle.nor_bus.specs.declared.bus.Armed.{Armed}
-use Rattle.nor_bus.specs.Bus.{IsBank, BusState, lane, lanes_of, nearer, more, wide, fails, is_now}
+use Rattle.nor_bus.specs.Bus.{IsBank, BusState, chip_at, lane, lanes_of, units_of, nearer, more, wide, fails, is_now}
 use Rattle.nor_bus.specs.Cycles.{KeepsLanes, Passes, BusFails}
-use Rattle.nor_bus.specs.Driven.{IsOwn, Nearer, Went, Lost, spread}
+use Rattle.nor_bus.specs.Driven.{IsOwn, Reaches, Nearer, IsDue, Went, Lost, spread, reached, EachLane, EachPart, TakesCode, TakesPart, AnswersPart}
 
 pub keeps_then : (a b c : BusState) → KeepsLanes a b → KeepsLanes b c → KeepsLanes a c
 keeps_then a b c h k = record {
@@ -80,6 +82,7 @@ not_due false due e = cc
 pub went_one : (a b : BusState) → Passes a b → KeepsLanes a b → Went 1 1 a b
 went_one a b p k = record {
   power = λ on. p.power;
+  on = λ some. p.power;
   armed = subst (λ (x : Option Armed). Nearer 1 1 a.armed x) (sym p.armed) (nearer_one a.armed (not_due a.power (is_now a.armed) p.allowed));
   enough = let e = p.cycles in omega arith;
   few = let e = p.cycles in omega arith;
@@ -91,6 +94,7 @@ went_one a b p k = record {
 pub went_none : (a : BusState) → Went 0 0 a a
 went_none a = record {
   power = λ on. on;
+  on = λ some. absurd (omega arith);
   armed = nearer_none a.armed;
   enough = omega arith;
   few = omega arith;
@@ -98,10 +102,20 @@ went_none a = record {
   kept = record { count = refl; each = λ c below. record { part = refl; size = refl; locks = refl; bytes = λ small. small } };
 }
 
+-- one of two numbers isn't 0
+some_of : (n l : ℕ) → 0 < l + n → (0 < n) ⊎ (0 < l)
+some_of zero l h = inr (omega arith)
+some_of (suc n) l h = inl (omega arith)
+
+on_then : (l m n o : ℕ) (a b c : BusState) → Went l m a b → Went n o b c → (0 < n) ⊎ (0 < l) → c.power ≡ true
+on_then l m n o a b c x y (inl some) = y.on some
+on_then l m n o a b c x y (inr some) = y.power (x.on some)
+
 -- some cycles, and then some more
 pub went_then : (l m n o k q : ℕ) (a b c : BusState) → k ≤ l + n → m + o ≤ q → Went l m a b → Went n o b c → Went k q a c
 went_then l m n o k q a b c ge le x y = record {
   power = λ on. y.power (x.power on);
+  on = λ some. on_then l m n o a b c x y (some_of n l (omega (arith, some, ge)));
   armed = nearer_then l m n o k q a.armed b.armed c.armed ge le x.armed y.armed;
   enough = let p = x.enough in let r = y.enough in omega arith;
   few = let p = x.few in let r = y.few in omega arith;
@@ -115,11 +129,26 @@ due_was_armed true None due on none = cc
 due_was_armed true (Some armed) due on none = cc
 due_was_armed false armed due on none = cc
 
+-- and it was due just now
+due_now : (power : Bool) (armed : Option Armed) → (not power || is_now armed) ≡ true → power ≡ true → IsDue 1 armed
+due_now true None due on = cc
+due_now true (Some armed) due on = let now : armed.after ≡ 0 = grind (arith, due) in omega (arith, now)
+due_now false armed due on = cc
+
+-- a cut that comes within a later call comes within both
+due_then : (l m o q : ℕ) (x y : Option Armed) → m + o ≤ q → Nearer l m x y → IsDue o y → IsDue q x
+due_then l m o q None None le near due = absurd due
+due_then l m o q None (Some y) le near due = absurd near
+due_then l m o q (Some x) None le near due = absurd due
+due_then l m o q (Some x) (Some y) le near due = let p = near.1 in omega (arith, le, p, due)
+
 -- the first cycle failed
 pub lost_one : (a b : BusState) → fails a ≡ true → BusFails a b → KeepsLanes a b → Lost 1 a b
 lost_one a b due f k = record {
   power = f.power;
   was_armed = due_was_armed a.power a.armed due;
+  due = due_now a.power a.armed due;
+  rose = let e = f.cycles in omega arith;
   few = let e = f.cycles in omega arith;
   failed = f.failed;
   kept = k;
@@ -130,6 +159,8 @@ pub lost_then : (l m o q : ℕ) (a b c : BusState) → m + o ≤ q → Went l m 
 lost_then l m o q a b c le w x = record {
   power = x.power;
   was_armed = λ on none. x.was_armed (w.power on) (still_none l m a.armed b.armed w.armed none);
+  due = λ on. due_then l m o q a.armed b.armed le w.armed (x.due (w.power on));
+  rose = let p = w.enough in let r = x.rose in omega (arith, p, r);
   few = let p = w.few in let r = x.few in omega arith;
   failed = subst (λ (n : ℕ). more 1 n ≤ c.failed) w.failed x.failed;
   kept = keeps_then a b c w.kept x.kept;
@@ -157,3 +188,42 @@ splat_lane X16 n lanes c v below e =
 pub splat_there : (width : ℕ) (device : Device) (bus : BusState) (c v : ℕ) → IsBank width device bus.lanes → c < lanes_of bus → lane_of (wide (lane bus c)) (replicate width v) c ≡ spread (wide (lane bus c)) v
 splat_there width device bus c v bank below =
     rw (device_of width device bus c bank below) (splat_lane device width (lanes_of bus) c v below (fills_word width device bus.lanes bank))
+
+-- ---- the units stay
+
+first_units : (a b : ChipState) → b.part ≡ a.part → length b.cells ≡ length a.cells → units b ≡ units a
+first_units a b part size = ap (λ (n : ℕ). n / unit_len b.part.device) size ∙ ap (λ (p : Part). length a.cells / unit_len p.device) part
+
+units_by : (xs ys : List ChipState) → length ys ≡ length xs → (0 < length xs → Keeps (chip_at xs 0) (chip_at ys 0)) → units (chip_at ys 0) ≡ units (chip_at xs 0)
+units_by [] [] count keeps = refl
+units_by [] (y ∷ ys) count keeps = absurd (omega arith)
+units_by (x ∷ xs) ys count keeps = let k = keeps (omega arith) in first_units x (chip_at ys 0) k.part k.size
+
+-- the bus has as many bus words as before
+pub units_kept : (a b : BusState) → KeepsLanes a b → units_of b ≡ units_of a
+units_kept a b h = units_by a.lanes b.lanes h.count (h.each 0)
+
+-- so it has an address that it had
+pub there_kept : (u : ℕ) (a b : BusState) → KeepsLanes a b → u < units_of a → u < units_of b
+there_kept u a b h there = subst (λ (n : ℕ). u < n) (sym (units_kept a b h)) there
+
+pub reaches_kept : (width : ℕ) (g : Geometry) (u : ℕ) (a b : BusState) → KeepsLanes a b → Reaches width g u a → Reaches width g u b
+reaches_kept width g u a b h reaches = record { own = own_kept width g a b h reaches.own; there = there_kept u a b h reaches.there }
+
+-- a lane stays
+pub lane_kept : (a b : BusState) (c : ℕ) → KeepsLanes a b → c < lanes_of a → c < lanes_of b
+lane_kept a b c h below = subst (λ (n : ℕ). c < n) (sym h.count) below
+
+-- ---- an address that the bus has is reached
+
+pub at_reached : (P : ℕ → Type 0) (u : ℕ) (bus : BusState) → u < units_of bus → P (reached u bus) → P u
+at_reached P u bus below h = subst P (mod-eq_of_lt below) h
+
+pub code_reached : (u code : ℕ) (a b : BusState) → u < units_of a → EachLane (TakesCode (reached u a) code) a b → EachLane (TakesCode u code) a b
+code_reached u code a b below h = at_reached (λ v. EachLane (TakesCode v code) a b) u a below h
+
+pub part_reached : (u : ℕ) (word : List ℕ) (a b : BusState) → u < units_of a → EachPart word (TakesPart (reached u a)) a b → EachPart word (TakesPart u) a b
+part_reached u word a b below h = at_reached (λ v. EachPart word (TakesPart v) a b) u a below h
+
+pub answer_reached : (u : ℕ) (word : List ℕ) (a b : BusState) → u < units_of a → EachPart word (AnswersPart (reached u a)) a b → EachPart word (AnswersPart u) a b
+answer_reached u word a b below h = at_reached (λ v. EachPart word (AnswersPart v) a b) u a below h

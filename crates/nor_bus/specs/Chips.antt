@@ -20,9 +20,9 @@ AnswersKept u bytes word c s t = Reads s u (lane_of bytes word c) t × Keeps s t
 abbrev pub TakesKept : ℕ → ℕ → List ℕ → ℕ → ChipState → ChipState → Type 0
 TakesKept u bytes word c s t = (t ≡ written s u (lane_of bytes word c)) × Keeps s t
 
--- chip c is cut
-abbrev pub CutsKept : ℕ → ChipState → ChipState → Type 0
-CutsKept c s t = Cuts s t × Keeps s t
+-- chip c is cut, and its work under way is left so
+abbrev pub CutsKept : (ChipState → ChipState → Type 0) → ℕ → ChipState → ChipState → Type 0
+CutsKept Leaves c s t = Cuts s t × Keeps s t × Leaves s t
 
 -- chip c is powered on
 abbrev pub PowersKept : ℕ → ChipState → ChipState → Type 0

@@ -1,8 +1,10 @@
 -- What a cycle of the bus does.
-use Rattle.std.specs.Prelude.{◌≡◌, ◌<◌, ◌≤◌, ℕ, true, false, List, None}
+use Rattle.std.specs.Prelude.{◌≡◌, ◌<◌, ◌≤◌, ℕ, true, false, List, Some, None}
+use Rattle.nor_cell.specs.Chip.{ChipState}
 use Rattle.nor_cell.specs.Steps.{Reads, Keeps, written}
 use Rattle.nor_cell.specs.Power.{Cuts, powered}
 use Rattle.nor_word.specs.Word.{lane_of}
+use Rattle.nor_bus.specs.declared.bus.Armed.{Armed}
 use Rattle.nor_bus.specs.Bus.{BusState, lane, lanes_of, wide, nearer, more, fails}
 
 -- what no cycle changes, of each lane
@@ -36,6 +38,11 @@ pub record BusFails (old new : BusState) : Type 0 where
   pub armed : new.armed ≡ old.armed
   pub cycles : new.cycles ≡ old.cycles
   pub failed : more 1 old.failed ≤ new.failed
+
+-- Where power went just now, each chip has left of its work what the armed mask says.
+abbrev pub LeavesByMask : (leaves : ℕ → ChipState → ChipState → Type 0) → BusState → BusState → Type 0
+LeavesByMask leaves old new =
+    old.power ≡ true → (cut : Armed) → old.armed ≡ Some cut → (c : ℕ) → c < lanes_of old → leaves cut.mask (lane old c) (lane new c)
 
 -- Power comes back.
 pub record PowersOn (old new : BusState) : Type 0 where

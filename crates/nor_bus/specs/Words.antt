@@ -1,6 +1,6 @@
 -- A bus word made of what the chips say, each in its lane.
 use Rattle.std.specs.Prelude.{◌++◌, ℕ, List, [], ◌∷◌}
-use Rattle.nor_cell.specs.Bits.{unit_bytes, unit_at}
+use Rattle.nor_cell.specs.Bits.{unit_bytes}
 use Rattle.nor_cell.specs.Chip.{ChipState}
 use Rattle.nor_cell.specs.Intel.{query_at}
 
@@ -12,7 +12,3 @@ side_by_side f (s ∷ chips) = unit_bytes s.part.device (f s) ++ side_by_side f 
 -- what chips that show their query tables answer at bus address u
 abbrev pub query_word : List ChipState → ℕ → List ℕ
 query_word chips u = side_by_side (λ s. query_at s.part u) chips
-
--- what chips that show their arrays answer at bus address u
-abbrev pub array_word : List ChipState → ℕ → List ℕ
-array_word chips u = side_by_side (λ s. unit_at s.part.device s.cells u) chips

@@ -1,7 +1,7 @@
-ghost use Rattle.std.specs.Prelude.{◌≡◌, ◌<◌, ◌≤◌, ◌*◌, ◌↔◌, map, true, None, IsTrue, IsFalse};
+ghost use Rattle.std.specs.Prelude.{◌≡◌, ◌<◌, ◌≤◌, ◌*◌, ◌↔◌, map, length, true, None, IsTrue, IsFalse, IsErr, IfOk, OnOk, OnErr};
 ghost use Rattle.nor_cell.specs.Bits.{unit_len};
-ghost use Rattle.nor_bus.specs.Bus.{BusState, IsBank, fails, lanes_of, lane as lane_state};
-ghost use Rattle.nor_bus.specs.Cycles.{Passes, BusFails, KeepsLanes};
+ghost use Rattle.nor_bus.specs.Bus.{BusState, IsBank, fails, lanes_of, units_of, lane as lane_state};
+ghost use Rattle.nor_bus.specs.Cycles.{Passes, BusReads, BusWrites, BusFails, KeepsLanes, LeavesByMask};
 
 use crate::chips::{cut_all, power_all, read_all, units_of_chips, write_all};
 use crate::{Armed, Bus, Off};
@@ -68,12 +68,22 @@ impl<W: BusWord, C: Chip + Drop> SimBank<W, C> {
         &self.chips[lane as usize]
     }
 
+    /// The chips, lane by lane.
+    pub fn chips(&self) -> &[C]
+        ensures chips { map C.state result.now ≡ (self.now).lanes }
+        ensures some { 0 < length result.now }
+        ensures few { length result.now ≤ 4 }
+    {
+        &self.chips[..]
+    }
+
     // Whether this cycle fails. If so, and power goes just now, the chips are cut. If not, it counts.
     fn passes(&mut self) -> bool
         ensures fails { IsFalse result ↔ (fails self.old ≡ true) }
         ensures passed { IsTrue result → Passes self.old self.new }
         ensures same { IsTrue result → (self.new).lanes ≡ (self.old).lanes }
         ensures failed { IsFalse result → BusFails self.old self.new }
+        ensures left { IsFalse result → LeavesByMask C.leaves self.old self.new }
         ensures kept { KeepsLanes self.old self.new }
     {
         if !self.has_power {
@@ -104,14 +114,31 @@ impl<W: BusWord, C: Chip + Drop> Bus<W> for SimBank<W, C> {
         units_of_chips(&self.chips, lane_bytes(self.device))
     }
 
-    fn read(&mut self, at: u32) -> Result<W, Off> {
+    fn read(&mut self, at: u32) -> Result<W, Off>
+        requires { at < units_of self.old }
+        ensures reads { IfOk result (λ word. BusReads self.old at (W.bytes word) self.new) }
+        ensures fails { OnErr result (BusFails self.old self.new) }
+        ensures off { IsErr result ↔ (fails self.old ≡ true) }
+        ensures kept { KeepsLanes self.old self.new }
+        ensures units { units_of self.new ≡ units_of self.old }
+        // The cycle that meets the cut cuts by its mask, and so does a write.
+        ensures left { OnErr result (LeavesByMask C.leaves self.old self.new) }
+    {
         if !self.passes() {
             return Err(Off);
         }
         Ok(read_all::<W, C>(&mut self.chips, at, lane_bytes(self.device)))
     }
 
-    fn write(&mut self, at: u32, word: W) -> Result<(), Off> {
+    fn write(&mut self, at: u32, word: W) -> Result<(), Off>
+        requires { at < units_of self.old }
+        ensures writes { OnOk result (BusWrites self.old at (W.bytes word) self.new) }
+        ensures fails { OnErr result (BusFails self.old self.new) }
+        ensures off { IsErr result ↔ (fails self.old ≡ true) }
+        ensures kept { KeepsLanes self.old self.new }
+        ensures units { units_of self.new ≡ units_of self.old }
+        ensures left { OnErr result (LeavesByMask C.leaves self.old self.new) }
+    {
         if !self.passes() {
             return Err(Off);
         }

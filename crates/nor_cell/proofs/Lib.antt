@@ -4,4 +4,5 @@ pub mod Changing
 pub mod Cutting
 pub mod Keeping
 pub mod Loading
+pub mod Locking
 pub mod Spans

@@ -1,12 +1,12 @@
 -- Cycles of a chip between two commands, of either set.
-use Rattle.std.proofs.Common.{◌≡◌, ◌<◌, ◌%◌, ◌+◌, ◌*◌, ℕ, List, refl, sym, ◌∙◌, ap, subst, arith, true, false, Bool, not, ◌==◌, ◌||◌, ◌&&◌, if◌then◌else◌}
+use Rattle.std.proofs.Common.{◌≡◌, ◌%◌, ◌+◌, ℕ, List, refl, sym, ◌∙◌, ap, subst, true, false, Bool, not, ◌==◌, ◌||◌, ◌&&◌, if◌then◌else◌}
 use Rattle.std.specs.Prelude.{MatchBool}
-use Rattle.nor_cell.specs.Chip.{ChipState, Part, Job, Idle, Mode, Array, Query, Ident, Status, Locks, Step, Rest, runs, is_held, Held, NotHeld, Flags, Fault, NoFault, TimeFault, AbortFault, place, has_blocks}
+use Rattle.nor_cell.specs.Chip.{ChipState, Job, Idle, Mode, Array, Query, Ident, Status, Locks, Step, Rest, runs, is_held, Flags, Fault, NoFault, TimeFault, AbortFault, place}
 use Rattle.nor_cell.specs.Look.{Look, Rests, look, look_at, looked, LooksTo, flags_with, fault_with, suspended}
 use Rattle.nor_cell.specs.Bits.{unit_at}
 use Rattle.nor_cell.specs.Steps.{Reads, reads_of, writes_of, written}
-use Rattle.nor_cell.specs.Intel.{IntelReads, in_held, Shows, ShowsMode, ShowsArray, bit_if, query_at, commanded, steps, intel_writes}
-use Rattle.nor_cell.specs.Amd.{AmdReads, toggled, toggles_6, toggles_2, flipped, shown, shows_held, is_fault, is_time, is_erasing, fault_at, mode_at, array_at, working, amd_writes, fault_steps, mode_steps, array_steps, query_steps, aq}
+use Rattle.nor_cell.specs.Intel.{in_held, Shows, ShowsMode, bit_if, query_at, commanded, steps}
+use Rattle.nor_cell.specs.Amd.{toggled, toggles_6, toggles_2, flipped, shown, shows_held, is_fault, is_time, is_erasing, fault_at, mode_at, working, fault_steps, mode_steps, array_steps, query_steps, aq}
 use Rattle.nor_cell.specs.Resting.{IsResting, IsShown, reset, can_reset}
 use Rattle.nor_cell.specs.declared.device.Device.{Device}
 use Rattle.nor_cell.specs.declared.device.Device.TheVariants.{X8, X16, X16Byte}

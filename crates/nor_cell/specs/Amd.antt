@@ -1,14 +1,15 @@
 -- The machine of set 0002, AMD standard: the toggle bits, what a read answers, and what a write does.
 use Rattle.std.specs.Prelude.{◌≡◌, ◌+◌, ◌-◌, ◌%◌, ℕ, List, [], ◌++◌, length, slice_index, Bool, true, false, not, ◌==◌, ◌&&◌, ◌||◌, nat_lt, if◌then◌else◌}
 use Rattle.nor_cell.specs.Bits.{unit_len, unit_bytes, unit_at}
-use Rattle.nor_cell.specs.Table.{has_locks, left_at_start}
+use Rattle.nor_cell.specs.Table.{has_locks, chip_erase_of, left_at_start}
 use Rattle.nor_cell.specs.declared.device.Work.{Work}
-use Rattle.nor_cell.specs.declared.device.Work.TheVariants.{Word, Buffer, Block}
-use Rattle.nor_cell.specs.Chip.{ChipState, Part, Mode, Array, Query, Ident, Status, Locks, Step, Rest, ProgramNext, EraseNext, LockNext, BufferCount, BufferData, BufferConfirm, U1, U2, E1, E2, E3, LeaveNext, Job, Idle, Program, Erase, OneBlock, Pausing, Fault, NoFault, TimeFault, AbortFault, block_of, has_blocks, place, is_locked, is_held, runs, counted}
+use Rattle.nor_cell.specs.declared.device.Work.TheVariants.{Word, Buffer, Block, Chip}
+use Rattle.nor_cell.specs.Chip.{ChipState, Part, Mode, Array, Query, Ident, Status, Locks, Step, Rest, ProgramNext, EraseNext, LockNext, BufferCount, BufferData, BufferConfirm, U1, U2, E1, E2, E3, LeaveNext, Job, Idle, Program, Erase, OneBlock, AllBlocks, Pausing, Fault, NoFault, TimeFault, AbortFault, block_of, has_blocks, place, is_locked, is_any_set, is_held, runs, counted}
 use Rattle.nor_cell.specs.Look.{look, looked, LooksTo, suspended, resumed}
 use Rattle.nor_cell.specs.Intel.{query_at, bit_if, in_held, held_off, set_lock, room, is_next, first_of, taken}
 use Rattle.nor_cell.specs.declared.device.Device.{Device}
 use Rattle.nor_cell.specs.declared.device.Device.TheVariants.{X8, X16, X16Byte}
+use Rattle.nor_cell.specs.declared.device.Set.TheVariants.{Amd}
 
 -- ---- the toggle bits
 
@@ -130,6 +131,12 @@ begin_erase b s =
     if is_locked s b then at_rest s
     else record s { step = Rest; job = Erase (OneBlock b) (left_at_start Block s.part.pace_erase s.part.table); erases = counted s.erases }
 
+-- One locked block keeps all from being erased at once.
+abbrev pub begin_erase_all : ChipState → ChipState
+begin_erase_all s =
+    if is_any_set s.locks then at_rest s
+    else record s { step = Rest; job = Erase AllBlocks (left_at_start Chip s.part.pace_erase s.part.table); erases = counted s.erases }
+
 -- in mode Array, by the step; `code` is the low byte of v
 abbrev pub array_steps : Step → ChipState → ℕ → ℕ → ℕ → ChipState
 array_steps Rest s u v code =
@@ -147,7 +154,10 @@ array_steps U2 s u v code =
     else at_rest s
 array_steps E1 s u v code = if code == 0xAA && u == a1 s.part.device then goes_to E2 s else at_rest s
 array_steps E2 s u v code = if code == 0x55 && u == a2 s.part.device then goes_to E3 s else at_rest s
-array_steps E3 s u v code = if code == 0x30 then begin_erase (block_of s u) s else at_rest s
+array_steps E3 s u v code =
+    if code == 0x30 then begin_erase (block_of s u) s
+    else if code == 0x10 && u == a1 s.part.device && chip_erase_of Amd s.part.table then begin_erase_all s
+    else at_rest s
 array_steps ProgramNext s u v code = begin_program Word u (unit_bytes s.part.device v) s
 array_steps (BufferCount b) s u v code =
     if nat_lt code (room s) then goes_to (BufferData b (code + 1) 0 []) s else aborted s

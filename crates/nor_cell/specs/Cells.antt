@@ -1,5 +1,5 @@
 -- A chip and the cells that it is made of.
-use Rattle.std.specs.Prelude.{◌≡◌, false, length, replicate}
+use Rattle.std.specs.Prelude.{◌≡◌, ℕ, Bool, false, List, [], ◌∷◌, length, replicate}
 use Rattle.nor_cell.specs.Chip.{ChipState, Part, Array, Rest, Idle, NotHeld, NoFault}
 use Rattle.nor_cell.specs.declared.device.Set.{Set}
 use Rattle.nor_cell.specs.declared.cells.Cells.{Cells}
@@ -45,7 +45,12 @@ pub record HasCells (s : ChipState) (cells : Cells) : Type 0 where
   pub suspends : s.suspends ≡ cells.suspends
   pub erases : s.erases ≡ cells.erases
 
--- Cells are made of their parts, with an open lock for each block.
+-- the locks that are given, or an open one for each block
+abbrev pub given_or_open : List Bool → ℕ → List Bool
+given_or_open [] blocks = replicate blocks false
+given_or_open (locked ∷ locks) blocks = locked ∷ locks
+
+-- Cells are made of their parts; where no locks are given each block has an open one.
 pub record AreMadeOf (parts : CellParts) (cells : Cells) : Type 0 where
   pub device : cells.device ≡ parts.device
   pub table : cells.table ≡ parts.table
@@ -58,4 +63,4 @@ pub record AreMadeOf (parts : CellParts) (cells : Cells) : Type 0 where
   pub suspends : cells.suspends ≡ parts.suspends
   pub erases : cells.erases ≡ parts.erases
   pub blocks : cells.blocks.items ≡ parts.blocks.items
-  pub locks : cells.locks.items ≡ replicate (length parts.blocks.items) false
+  pub locks : cells.locks.items ≡ given_or_open parts.locks.items (length parts.blocks.items)

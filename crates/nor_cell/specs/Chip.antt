@@ -1,6 +1,6 @@
 -- The state of a chip: what it is, what it holds, and where it stands in its commands.
 use Rattle.std.specs.Prelude.{◌+◌, ◌-◌, ◌*◌, ◌/◌, ◌^◌, min, ℕ, List, [], ◌∷◌, length, slice_index_or, Bool, true, false, ◌==◌, ◌&&◌, nat_lt, nat_le}
-use Rattle.std.specs.List.{position_or_len}
+use Rattle.std.specs.List.{position_or_len, list_any}
 use Rattle.nor_cell.specs.Bits.{unit_len}
 use Rattle.nor_cell.specs.declared.device.Device.{Device}
 use Rattle.nor_cell.specs.declared.device.Set.{Set}
@@ -131,6 +131,10 @@ block_of s u = block_at s.part.blocks (place s.part u)
 
 abbrev pub is_locked : ChipState → ℕ → Bool
 is_locked s b = slice_index_or s.locks b false
+
+-- a lock is set
+abbrev pub is_any_set : List Bool → Bool
+is_any_set locks = list_any (λ locked. locked) locks
 
 abbrev pub runs : Job → Bool
 runs Idle = false

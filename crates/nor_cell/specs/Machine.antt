@@ -1,13 +1,13 @@
 -- The chip that a simulated machine stands for.
-use Rattle.std.specs.Prelude.{◌<◌, ◌≤◌, ◌+◌, ◌-◌, ◌*◌, ◌^◌, ℕ, List, [], ◌++◌, length, Bool, false, ◌==◌}
+use Rattle.std.specs.Prelude.{◌≡◌, ◌<◌, ◌≤◌, ◌+◌, ◌-◌, ◌*◌, ◌^◌, ℕ, List, [], ◌++◌, length, Bool, true, false, ◌==◌}
 use Rattle.nor_cell.specs.Bits.{unit_len, unit_bytes}
-use Rattle.nor_cell.specs.Table.{buffer_units, left_at_start}
+use Rattle.nor_cell.specs.Table.{has_locks, buffer_units, left_at_start}
 use Rattle.nor_cell.specs.Intel.{is_next, taken, first_of}
 use Rattle.nor_cell.specs.Cells.{part_of}
 use Rattle.nor_cell.specs.Chip.{ChipState, Mode, Array, Query, Ident, Status, Locks, Step, Rest, ProgramNext, LockNext, BufferCount, BufferData, BufferConfirm, EraseNext, U1, U2, E1, E2, E3, LeaveNext, Target, OneBlock, AllBlocks, Job, Idle, Program, Erase, Pausing, Held, NotHeld, Holds, Fault, NoFault, TimeFault, AbortFault, counted, place}
 use Rattle.nor_cell.specs.declared.device.Set.{Set}
 use Rattle.nor_cell.specs.declared.device.Work.{Work}
-use Rattle.nor_cell.specs.declared.device.Work.TheVariants.{Block}
+use Rattle.nor_cell.specs.declared.device.Work.TheVariants.{Block, Chip}
 use Rattle.nor_cell.specs.declared.cells.Cells.{Cells}
 use Rattle.nor_cell.specs.declared.state.ShownMode.{ShownMode}
 use Rattle.nor_cell.specs.declared.state.ShownMode.TheVariants.{Array as ArrayShown, Query as QueryShown, Ident as IdentShown, Status as StatusShown, Locks as LocksShown}
@@ -119,8 +119,17 @@ StepFits Erase2 load cells = Unit {0}
 StepFits Erase3 load cells = Unit {0}
 StepFits LeaveNow load cells = Unit {0}
 
-pub record Fits (cells : Cells) (step : NextStep) (job : RunningJob) (load : List ℕ) : Type 0 where
+-- The locks are shown only where the table offers them.
+abbrev pub ModeFits : ShownMode → Cells → Type 0
+ModeFits ArrayShown cells = Unit {0}
+ModeFits QueryShown cells = Unit {0}
+ModeFits IdentShown cells = Unit {0}
+ModeFits StatusShown cells = Unit {0}
+ModeFits LocksShown cells = has_locks cells.table ≡ true
+
+pub record Fits (cells : Cells) (mode : ShownMode) (step : NextStep) (job : RunningJob) (load : List ℕ) : Type 0 where
   pub size : length cells.bytes.items ≤ 2 ^ 27
+  pub mode_offered : ModeFits mode cells
   pub step_inside : StepFits step load cells
   pub job_inside : JobFits job load cells
 
@@ -144,9 +153,13 @@ loaded _ s u v = s
 
 -- ---- jobs begin
 
+abbrev pub work_of : Target → Work
+work_of (OneBlock b) = Block
+work_of AllBlocks = Chip
+
 abbrev pub erase_started : Target → ChipState → ChipState
 erase_started target s =
-    record s { step = Rest; job = Erase target (left_at_start Block s.part.pace_erase s.part.table); erases = counted s.erases }
+    record s { step = Rest; job = Erase target (left_at_start (work_of target) s.part.pace_erase s.part.table); erases = counted s.erases }
 
 -- what is loaded is programmed, from unit u on
 abbrev pub program_started : Work → ℕ → List ℕ → ChipState → ChipState

@@ -1,5 +1,5 @@
 -- What a loss of power leaves, and what its return makes of it.
-use Rattle.std.specs.Prelude.{◌≡◌, ◌<◌, ◌+◌, ◌-◌, ℕ, List, length, slice_index, Bool, true, false, ◌&&◌, ◌||◌, nat_le, nat_lt, replicate}
+use Rattle.std.specs.Prelude.{◌≡◌, ◌<◌, ◌+◌, ◌-◌, ℕ, List, length, slice_index, Bool, true, false, ◌&&◌, ◌||◌, nat_le, nat_lt, if◌then◌else◌, replicate}
 use Rattle.nor_cell.specs.Bits.{IsBetween}
 use Rattle.nor_cell.specs.Table.{has_locks}
 use Rattle.nor_cell.specs.Chip.{ChipState, Job, Idle, Program, Erase, Pausing, Held, NotHeld, Holds, NoFault, Array, Rest, block, covered, is_within}
@@ -44,10 +44,11 @@ pub record Cuts (old new : ChipState) : Type 0 where
   pub kept : (p : ℕ) → is_erasing_at old p ≡ false → programs_at old.job p ≡ false → slice_index new.cells p ≡ slice_index old.cells p
   pub rest : new ≡ record old { cells = new.cells }
 
--- the locks after power-on: all set where the set is 0001 and the table offers locks, else all clear
+-- The locks after power-on: where the table offers locks set 0001 has all of them set, and set 0002 keeps them.
+-- Where it offers none, none is set.
 abbrev pub locks_after : Set → List ℕ → List Bool → List Bool
 locks_after Intel table locks = replicate (length locks) (has_locks table)
-locks_after Amd table locks = replicate (length locks) false
+locks_after Amd table locks = if has_locks table then locks else replicate (length locks) false
 
 -- Power is back.
 abbrev pub powered : ChipState → ChipState

@@ -1,8 +1,9 @@
 -- The ranges of what a chip is made of.
-use Rattle.std.specs.Prelude.{◌≡◌, ◌≤◌, ℕ, Bool, true, List, [], ◌∷◌, ◌==◌, ◌+◌, ◌%◌, ◌^◌, ◌&&◌, nat_lt, length, IsTrue}
+use Rattle.std.specs.Prelude.{◌≡◌, ◌≤◌, ℕ, Bool, true, false, List, [], ◌∷◌, ◌==◌, ◌+◌, ◌%◌, ◌^◌, ◌&&◌, ◌||◌, nat_lt, length, IsTrue}
 use Rattle.std.specs.List.{list_any, list_all}
 use Rattle.nor_cell.specs.Bits.{unit_len, AreBytes}
-use Rattle.nor_cell.specs.Chip.{ChipState}
+use Rattle.nor_cell.specs.Chip.{ChipState, is_any_set}
+use Rattle.nor_cell.specs.Table.{has_locks}
 use Rattle.nor_cell.specs.declared.device.Device.{Device}
 use Rattle.nor_cell.specs.declared.device.Span.{Span}
 
@@ -29,6 +30,14 @@ follow_to end from (span ∷ spans) = (span.from == from) && follow_to end (from
 abbrev pub are_blocks : ℕ → List Span → Bool
 are_blocks size [] = true
 are_blocks size (span ∷ spans) = follow_to size 0 (span ∷ spans)
+
+-- Locks are set only where the table offers them.
+abbrev pub AreOffered : List ℕ → List Bool → Type 0
+AreOffered table locks = has_locks table ≡ false → is_any_set locks ≡ false
+
+-- so many locks: none, or one for each block
+abbrev pub is_none_or_each : (blocks locks : ℕ) → Bool
+is_none_or_each blocks locks = locks == 0 || locks == blocks
 
 -- what holds of every chip
 pub record IsChip (s : ChipState) : Type 0 where

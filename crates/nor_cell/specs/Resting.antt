@@ -1,6 +1,6 @@
 -- A chip between two commands.
-use Rattle.std.specs.Prelude.{◌≡◌, Bool, true, false, ℕ}
-use Rattle.nor_cell.specs.Chip.{ChipState, Mode, Array, Query, Ident, Status, Locks, Step, Rest, Job, Idle, Held, NotHeld, Fault, NoFault, TimeFault, AbortFault}
+use Rattle.std.specs.Prelude.{◌≡◌, Bool, true, false}
+use Rattle.nor_cell.specs.Chip.{ChipState, Mode, Array, Query, Ident, Status, Locks, Rest, Idle, NotHeld, Fault, NoFault, TimeFault, AbortFault}
 use Rattle.nor_cell.specs.declared.device.Set.{Set}
 use Rattle.nor_cell.specs.declared.device.Set.TheVariants.{Intel, Amd}
 

@@ -1,12 +1,12 @@
 -- What a chip's query table says, read straight from its bytes.
-use Rattle.std.specs.Prelude.{◌+◌, ◌-◌, ◌*◌, ◌^◌, min, ℕ, zero, suc, List, slice_index, Bool, true, false, ◌==◌, if◌then◌else◌}
+use Rattle.std.specs.Prelude.{◌+◌, ◌-◌, ◌*◌, ◌^◌, min, ℕ, zero, suc, List, slice_index, Bool, true, false, not, ◌==◌, if◌then◌else◌}
 use Rattle.nor_cell.specs.Bits.{has_bit}
 use Rattle.nor_cell.specs.declared.device.Device.{Device}
 use Rattle.nor_cell.specs.declared.device.Device.TheVariants.{X8, X16, X16Byte}
 use Rattle.nor_cell.specs.declared.device.Set.{Set}
 use Rattle.nor_cell.specs.declared.device.Set.TheVariants.{Intel, Amd}
 use Rattle.nor_cell.specs.declared.device.Work.{Work}
-use Rattle.nor_cell.specs.declared.device.Work.TheVariants.{Word, Buffer, Block}
+use Rattle.nor_cell.specs.declared.device.Work.TheVariants.{Word, Buffer, Block, Chip}
 use Rattle.nor_cell.specs.declared.device.SuspendKind.{SuspendKind}
 use Rattle.nor_cell.specs.declared.device.SuspendKind.TheVariants.{None as NoSuspend, Read as ReadOnly, Program as ReadProgram}
 
@@ -63,6 +63,15 @@ locks_of Amd table = extended table 9 == 8
 abbrev pub has_locks : List ℕ → Bool
 has_locks table = locks_of (set_of table) table
 
+-- Amd: a typical time of a chip's erase is given.
+abbrev pub chip_erase_of : Set → List ℕ → Bool
+chip_erase_of Intel table = false
+chip_erase_of Amd table = not (field_8 table 0x22 == 0)
+
+-- whether the table offers an erase of all blocks at once
+abbrev pub has_chip_erase : List ℕ → Bool
+has_chip_erase table = chip_erase_of (set_of table) table
+
 abbrev pub at_least_two : ℕ → ℕ
 at_least_two n = if n == 1 then 0 else n
 
@@ -81,11 +90,13 @@ abbrev pub typical : Work → List ℕ → ℕ
 typical Word table = field_8 table 0x1F
 typical Buffer table = field_8 table 0x20
 typical Block table = field_8 table 0x21
+typical Chip table = field_8 table 0x22
 
 abbrev pub greatest : Work → List ℕ → ℕ
 greatest Word table = field_8 table 0x23
 greatest Buffer table = field_8 table 0x24
 greatest Block table = field_8 table 0x25
+greatest Chip table = field_8 table 0x26
 
 -- the most status reads that a job shows working, by its exponents
 abbrev pub most_reads : ℕ → ℕ → ℕ

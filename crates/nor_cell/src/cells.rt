@@ -1,5 +1,5 @@
 ghost use Rattle.std.specs.Prelude.{◌≡◌, ◌≤◌, length, IsTrue};
-ghost use Rattle.nor_cell.specs.Ranges.{is_chip_size, is_ascending_below, begin_units, are_blocks};
+ghost use Rattle.nor_cell.specs.Ranges.{is_chip_size, is_ascending_below, begin_units, are_blocks, AreOffered};
 
 use crate::{Device, Span};
 use std::alloc::AllocError;
@@ -7,8 +7,9 @@ use std::alloc::AllocError;
 /// Memory ran out.
 pub type NoMemory = AllocError;
 
-/// What a chip is made of, without its locks. The paces and counters are numbers of status reads
-/// and of erases; `weak` are the places, in bytes, at which programming and erasing break off.
+/// What a chip is made of. The paces and counters are numbers of status reads and of erases; `weak`
+/// are the places, in bytes, at which programming and erasing break off. Where `locks` is empty
+/// each block has an open lock.
 #[derive(Drop)]
 pub struct CellParts {
     pub device: Device,
@@ -24,6 +25,7 @@ pub struct CellParts {
     pub suspends: u32,
     pub erases: u32,
     pub blocks: Vec<Span>,
+    pub locks: Vec<bool>,
 }
 
 /// What a chip keeps without power, and its locks, one for each block.
@@ -48,4 +50,5 @@ pub struct Cells {
     pub ghost pace: { pace_suspend ≤ 16 },
     pub ghost follow: { IsTrue (are_blocks (length bytes.items) blocks.items) },
     pub ghost locked: { length locks.items ≡ length blocks.items },
+    pub ghost offered: { AreOffered table locks.items },
 }

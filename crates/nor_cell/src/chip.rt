@@ -1,4 +1,4 @@
-ghost use Rattle.std.specs.Prelude.{◌≡◌, ◌<◌, ◌^◌};
+ghost use Rattle.std.specs.Prelude.{◌≡◌, ◌<◌, ◌^◌, ℕ};
 ghost use Rattle.nor_cell.specs.Bits.{unit_len};
 ghost use Rattle.nor_cell.specs.Cells.{HasCells};
 ghost use Rattle.nor_cell.specs.Chip.{ChipState, units};
@@ -12,6 +12,9 @@ use crate::Cells;
 pub trait Chip {
     /// What the chip is and holds, and where it stands in its commands.
     ghost state: { Self → ChipState };
+
+    /// What a cut by a mask may leave of work under way. A simulated chip leaves just what the mask picks.
+    ghost leaves: { ℕ → ChipState → ChipState → Type 0 };
 
     /// One read cycle at a unit.
     fn read(&mut self, at: u32) -> u16
@@ -29,6 +32,7 @@ pub trait Chip {
     /// Power is lost. The mask picks what a simulated chip leaves of work under way.
     fn cut(&mut self, mask: u8)
         ensures step { Cuts (state self.old) (state self.new) }
+        ensures left { leaves mask (state self.old) (state self.new) }
         ensures kept { Keeps (state self.old) (state self.new) };
 
     /// Power is back.

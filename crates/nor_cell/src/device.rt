@@ -24,12 +24,14 @@ pub enum SuspendKind {
     Program,
 }
 
-/// What the query table gives times for: programming a word or a buffer load, erasing a block.
+/// What the query table gives times for: programming a word or a buffer load, erasing a block or
+/// the whole chip.
 #[derive(Clone, Copy, Debug, PartialEq, Eq)]
 pub enum Work {
     Word,
     Buffer,
     Block,
+    Chip,
 }
 
 /// A range of bytes.

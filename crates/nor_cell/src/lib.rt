@@ -46,6 +46,6 @@ pub use make::make_cells;
 pub use reads::register;
 pub use state::{EraseTarget, Failure, HeldErase, NextStep, RunningJob, ShownMode, StatusFlags};
 pub use table::{
-    buffer_units, can_program_suspended, can_suspend, has_locks, left_at_start, set_of,
-    suspend_kind,
+    amd_suspend, buffer_units, buffer_units_of, can_program_suspended, can_suspend, chip_erase_of,
+    has_bit, has_locks, intel_suspend, left_at_start, most_reads, set_of, suspend_kind,
 };

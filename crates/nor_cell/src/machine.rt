@@ -5,9 +5,10 @@ ghost use Rattle.nor_cell.specs.Cells.{chip_of};
 ghost use Rattle.nor_cell.specs.Intel.{set_lock};
 ghost use Rattle.nor_cell.specs.Look.{look, looked, LooksTo, suspended, resumed};
 ghost use Rattle.nor_cell.specs.Machine.{is_over, target_of, erase_started};
-ghost use Rattle.nor_cell.specs.Power.{Cuts, powered};
+ghost use Rattle.nor_cell.specs.Power.{Cuts, locks_after, powered};
 ghost use Rattle.nor_cell.specs.Simulated.{CutsBy, CutsHeld, CutsJob, LeavesBroken};
 ghost use Rattle.nor_cell.specs.Steps.{Keeps};
+ghost use Rattle.nor_cell.specs.Table.{has_locks};
 
 use crate::bits::unit_len;
 use crate::blocks::{block, covered};
@@ -46,7 +47,7 @@ impl Model for Machine {
 
     ghost view = { λ m. machine_of m.set m.cells m.mode m.step m.job m.held m.flags m.fault m.toggle_6 m.toggle_2 m.load.items };
 
-    ghost invariant = { λ m. Fits m.cells m.step m.job m.load.items };
+    ghost invariant = { λ m. Fits m.cells m.mode m.step m.job m.load.items };
 }
 
 impl Machine {
@@ -199,16 +200,21 @@ impl Machine {
     pub fn start_erase(&mut self, target: EraseTarget)
         ensures { self.new ≡ erase_started (target_of target) self.old }
     {
+        let work = match target {
+            EraseTarget::OneBlock { .. } => Work::Block,
+            EraseTarget::AllBlocks => Work::Chip,
+        };
         self.step = NextStep::Rest;
         self.job = RunningJob::Erase {
             target,
-            left: left_at_start(Work::Block, self.cells.pace_erase, &self.cells.table),
+            left: left_at_start(work, self.cells.pace_erase, &self.cells.table),
         };
         self.cells.erases = self.cells.erases.saturating_add(1);
     }
 
     /// A block is locked or unlocked.
     pub fn set_lock(&mut self, block: usize, locked: bool)
+        requires { has_locks (self.old).part.table ≡ true }
         ensures { self.new ≡ set_lock block locked self.old }
     {
         self.step = NextStep::Rest;
@@ -277,10 +283,20 @@ impl Machine {
         self.fault = Failure::None;
         self.toggle_6 = false;
         self.toggle_2 = false;
-        let locked = match self.set {
-            Set::Intel => has_locks(&self.cells.table),
-            Set::Amd => false,
-        };
-        self.cells.locks.fill(locked);
+        self.power_locks();
+    }
+
+    // The locks that the return of power leaves: one set has all set that are offered, the other
+    // keeps them.
+    fn power_locks(&mut self)
+        ensures { self.new ≡ record self.old { locks = locks_after (self.old).part.set (self.old).part.table (self.old).locks } }
+    {
+        match self.set {
+            Set::Intel => {
+                let locked = has_locks(&self.cells.table);
+                self.cells.locks.fill(locked);
+            }
+            Set::Amd => {}
+        }
     }
 }

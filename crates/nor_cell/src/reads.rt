@@ -2,7 +2,7 @@
 ghost use Rattle.std.specs.Prelude.{◌≡◌, ◌<◌, ◌^◌, length};
 ghost use Rattle.nor_cell.specs.Bits.{AreBytes, unit_len, unit_at};
 ghost use Rattle.nor_cell.specs.Cells.{HasCells};
-ghost use Rattle.nor_cell.specs.Chip.{Part, units, block_of, is_locked, is_held, runs};
+ghost use Rattle.nor_cell.specs.Chip.{Part, units, block_of, is_locked, is_any_set, is_held, runs};
 ghost use Rattle.nor_cell.specs.Intel.{register, query_at, held_off};
 ghost use Rattle.nor_cell.specs.Ranges.{IsChip};
 
@@ -81,6 +81,13 @@ impl Machine {
         ensures { result ≡ is_locked self.now block }
     {
         block < self.cells.locks.len() && self.cells.locks[block]
+    }
+
+    /// Whether any block is locked.
+    pub fn is_any_locked(&self) -> bool
+        ensures { result ≡ is_any_set self.now.locks }
+    {
+        self.cells.locks.iter().any(|locked| *locked)
     }
 
     /// Whether a job runs.

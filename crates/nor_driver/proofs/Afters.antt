@@ -1,23 +1,30 @@
--- What the entry of a call leaves of an array: its armed cut, its power, its locks.
-use Rattle.std.proofs.Common.{◌≡◌, ◌≢◌, ℕ, List, Bool, true, false, refl}
+-- What the entry of a call leaves of an array: its armed cut, its power.
+use Rattle.std.proofs.Common.{◌≡◌, ◌≢◌, ℕ, List, true, refl}
 use Rattle.nor_array.specs.Array.{ArrayState}
-use Rattle.nor_array.specs.After.{after, after_reply, after_done, after_opened, after_erased, after_failed, after_halted, power_of}
+use Rattle.nor_array.specs.After.{after, after_reply, after_done, after_opened, after_erased, after_failed, after_halted, left_by, power_of}
 use Rattle.nor_array.specs.declared.entry.Entry.{Entry}
 use Rattle.nor_array.specs.declared.entry.Halted.{Halted as HaltCause}
 use Rattle.nor_array.specs.declared.entry.Halted.TheVariants.{Off as OffHalt, Stuck as StuckHalt}
 use Rattle.nor_array.specs.declared.entry.Op.{Op}
-use Rattle.nor_array.specs.declared.entry.Op.TheVariants.{Read, Program, EraseOpen, Poll, Arm, PowerOn}
+use Rattle.nor_array.specs.declared.entry.Op.TheVariants.{Read, Program, EraseOpen, EraseAll, Poll, Lock, Unlock, Arm, PowerOn}
 use Rattle.nor_array.specs.declared.entry.Reply.{Reply}
 use Rattle.nor_array.specs.declared.entry.Reply.TheVariants.{Done, Opened, Erased, Failed, Halted}
 use Rattle.nor_array.specs.declared.state.Power.{Power}
 use Rattle.nor_array.specs.declared.state.Power.TheVariants.{On}
+use Rattle.nor_array.proofs.Unlocked.{is_range}
 use Rattle.nor_driver.specs.Fronts.{is_call}
 use Rattle.nor_driver.proofs.Replies.{false_true}
 
 -- ---- the armed cut stays
 
+left_armed : (op : Op) (left : List ℕ) (a : ArrayState) → (left_by op left a).armed ≡ a.armed
+left_armed (Program at new) left a = refl
+left_armed (Lock b) left a = refl
+left_armed (Unlock b) left a = refl
+left_armed op left a = refl
+
 halt_armed : (power : Power) (cause : HaltCause) (op : Op) (bytes : List ℕ) (a : ArrayState) → (after_halted power cause op bytes a).armed ≡ a.armed
-halt_armed On cause op bytes a = refl
+halt_armed On cause op bytes a = left_armed op _ _
 halt_armed power cause op bytes a = refl
 
 done_armed : (op : Op) (a : ArrayState) → is_call op ≡ true → (after_done op a).armed ≡ a.armed
@@ -27,6 +34,7 @@ done_armed op a call = refl
 
 opened_armed : (op : Op) (caller : ℕ) (a : ArrayState) → (after_opened op caller a).armed ≡ a.armed
 opened_armed (EraseOpen b) caller a = refl
+opened_armed EraseAll caller a = refl
 opened_armed op caller a = refl
 
 erased_armed : (op : Op) (a : ArrayState) → (after_erased op a).armed ≡ a.armed
@@ -65,6 +73,7 @@ done_on op a call on = on
 
 opened_on : (op : Op) (caller : ℕ) (a : ArrayState) → (after_opened op caller a).power ≡ On → a.power ≡ On
 opened_on (EraseOpen b) caller a on = on
+opened_on EraseAll caller a on = on
 opened_on op caller a on = on
 
 erased_on : (op : Op) (a : ArrayState) → (after_erased op a).power ≡ On → a.power ≡ On
@@ -86,25 +95,9 @@ reply_on reply e a call on = on
 pub was_on : (a : ArrayState) (e : Entry) → is_call e.op ≡ true → (after a e).power ≡ On → a.power ≡ On
 was_on a e call on = reply_on e.reply e a call on
 
--- ---- reads and programs leave the locks
-
-abbrev pub is_range : Op → Bool
-is_range (Read at len) = true
-is_range (Program at new) = true
-is_range _ = false
+-- ---- reads and programs
 
 pub range_call : (op : Op) → is_range op ≡ true → is_call op ≡ true
 range_call (Read at len) range = refl
 range_call (Program at new) range = refl
 range_call op range = absurd (false_true range)
-
-halt_locks : (power : Power) (cause : HaltCause) (op : Op) (bytes : List ℕ) (a : ArrayState) → (after_halted power cause op bytes a).locks ≡ a.locks
-halt_locks On cause op bytes a = refl
-halt_locks power cause op bytes a = refl
-
-pub range_locks : (r : Reply) (caller : ℕ) (op : Op) (bytes : List ℕ) (a : ArrayState) → is_range op ≡ true
-    → (after_reply r (record { caller = caller; op = op; reply = r; bytes = bytes }) a).locks ≡ a.locks
-range_locks (Halted cause) caller op bytes a range = halt_locks a.power cause op bytes a
-range_locks r caller (Read at len) bytes a range = refl
-range_locks r caller (Program at new) bytes a range = refl
-range_locks r caller op bytes a range = absurd (false_true range)

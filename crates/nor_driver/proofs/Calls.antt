@@ -1,5 +1,5 @@
 -- What reads and programs of the bank make is what the driver needs of them.
-use Rattle.std.proofs.Common.{◌≡◌, ◌≢◌, ◌<◌, ◌≤◌, ◌+◌, ◌*◌, ◌∙◌, ◌==◌, ◌&&◌, ℕ, zero, suc, List, [], ◌∷◌, length, Bool, true, false, Option, Some, None, if◌then◌else◌, slice_index_or, refl, sym, ap, subst, arith, nat_lt}
+use Rattle.std.proofs.Common.{◌≡◌, ◌≢◌, ◌<◌, ◌≤◌, ◌+◌, ◌*◌, ◌∙◌, ◌==◌, ℕ, zero, suc, List, [], ◌∷◌, length, Bool, true, false, Option, Some, None, if◌then◌else◌, slice_index_or, refl, sym, ap, subst, arith, nat_lt}
 use Rattle.std.specs.Prelude.{IfSome}
 use Rattle.nor_cell.specs.Chip.{Part}
 use Rattle.nor_cell.specs.Bits.{unit_len}
@@ -7,10 +7,10 @@ use Rattle.nor_cell.specs.declared.device.Device.{Device}
 use Rattle.nor_bus.specs.Bus.{IsBank, IsWired, lanes_of, more}
 use Rattle.nor_bus.specs.Driven.{EachLane, Went}
 use Rattle.nor_bus.proofs.Driving.{some_lane, fills_word}
-use Rattle.nor_array.specs.Array.{ArrayState, is_locked}
+use Rattle.nor_array.specs.Array.{ArrayState}
 use Rattle.nor_array.specs.After.{after}
-use Rattle.nor_array.specs.Admits.{lowest, first_locked}
-use Rattle.nor_array.specs.Refusals.{touches, when, first_some}
+use Rattle.nor_array.specs.Admits.{first_locked}
+use Rattle.nor_array.specs.Refusals.{when, first_some}
 use Rattle.nor_array.specs.declared.entry.Entry.{Entry}
 use Rattle.nor_array.specs.declared.entry.Halted.{Halted as HaltCause}
 use Rattle.nor_array.specs.declared.entry.Halted.TheVariants.{Off as OffHalt}
@@ -29,7 +29,8 @@ use Rattle.nor_bank.proofs.Using.{uses_same}
 use Rattle.nor_turn.specs.Fronts.{Name}
 use Rattle.nor_driver.specs.Fronts.{risen, words_of, cycles_left, ClosesOwn}
 use Rattle.nor_driver.specs.Made.{GoesOn, Rests, is_waited_out}
-use Rattle.nor_driver.proofs.Afters.{is_range, range_call, range_locks}
+use Rattle.nor_array.proofs.Unlocked.{is_range, range_locks, none_locked}
+use Rattle.nor_driver.proofs.Afters.{range_call}
 use Rattle.nor_driver.proofs.Cuts.{words_none, words_some}
 use Rattle.nor_driver.proofs.Going.{lasts_self}
 use Rattle.nor_driver.proofs.Replies.{false_true, is_plain, plain_other, plain_given, plain_opens, loses_failed}
@@ -160,20 +161,6 @@ given_entry r op caller given old new a same makes =
 program_words : (w at : ℕ) (new : List ℕ) (r : Reply) → words_of w r (Program at new) ≡ 0
 program_words w at new Done = refl
 program_words w at new r = refl
-
--- no block is locked of those that it touches
-none_lowest : (test : ℕ → Bool) (k n : ℕ) → ((b : ℕ) → test b ≡ false) → lowest test k n ≡ None
-none_lowest test k zero none = refl
-none_lowest test k (suc n) none = ap (λ (b : Bool). if b then Some k else lowest test (k + 1) n) (none k) ∙ none_lowest test (k + 1) n none
-
-and_false : (x y : Bool) → y ≡ false → (x && y) ≡ false
-and_false true y is = is
-and_false false y is = refl
-
-none_locked : (a : ArrayState) (at : ℕ) (written : List ℕ) → ((n : ℕ) → is_locked a n ≡ false) → first_locked a (Program at written) ≡ None
-none_locked a at written unlocked =
-    none_lowest (λ b. touches a (Program at written) b && is_locked a b) 0 (length a.consts.blocks)
-    (λ b. and_false (touches a (Program at written) b) (is_locked a b) (unlocked b))
 
 pub program_makes : (old new : BankState) (caller at : ℕ) (written given : List ℕ) (r : Reply) → AnswersRange old new at (length written) r
     → (old.erase ≡ None → IsBuilt old → (a : ArrayState) → Stands old a → first_locked a (Program at written) ≡ None → MakesEntry old new (entry_of old new caller (Program at written) r []) a)

@@ -1,15 +1,12 @@
 -- A front with one entry more, and with no more.
-use Rattle.std.proofs.Common.{◌≡◌, ◌<◌, ◌≤◌, ◌+◌, ◌∙◌, ◌++◌, ◌∷◌, ℕ, zero, suc, List, [], length, map, Bool, true, Option, Some, None, refl, sym, ap, subst, arith, rules}
+use Rattle.std.proofs.Common.{◌≡◌, ◌<◌, ◌≤◌, ◌+◌, ◌∙◌, ◌++◌, ◌∷◌, ℕ, zero, suc, List, [], true, Option, Some, None, refl, sym, ap, subst, arith, rules}
 use Rattle.std.specs.Prelude.{All}
 use Rattle.std.proofs.lemmas.List.Elements.{All-push}
-use Rattle.nor_cell.specs.Chip.{ChipState, counted}
-use Rattle.nor_cell.specs.Table.{buffer_units_of}
-use Rattle.nor_bus.specs.Bus.{BusState, lanes_of, chip_at, more}
+use Rattle.nor_cell.specs.Chip.{counted}
+use Rattle.nor_bus.specs.Bus.{BusState, lanes_of, more}
 use Rattle.nor_bus.specs.Cycles.{KeepsLanes}
 use Rattle.nor_bus.specs.Driven.{EachLane}
 use Rattle.nor_bus.proofs.Driving.{keeps_then}
-use Rattle.nor_query.specs.Derived.{suspend_of}
-use Rattle.nor_probe.specs.declared.probing.Found.{Found}
 use Rattle.nor_array.specs.Array.{ArrayState}
 use Rattle.nor_array.specs.After.{after, after_all}
 use Rattle.nor_array.specs.Legal.{Facts, Agrees, Legal}
@@ -22,6 +19,7 @@ use Rattle.nor_bank.specs.State.{BankState, word_bytes}
 use Rattle.nor_turn.specs.Fronts.{Name, Front}
 use Rattle.nor_bank.specs.Work.{CanCall}
 use Rattle.nor_bank.proofs.Keeping.{keeps_self}
+use Rattle.nor_bank.proofs.Lasting.{facts_last}
 use Rattle.nor_driver.specs.Fronts.{StandsFrom, StandsFor, entries_of, is_call, opens, loses, words_of, opened, lost, words_read, risen, opener_after, ClosesOwn, AllCloseOwn, cycles_left}
 use Rattle.nor_driver.specs.Made.{GoesOn, Rests}
 use Rattle.nor_driver.proofs.Afters.{same_armed}
@@ -64,29 +62,8 @@ closes_last opener (p ∷ front) name e all one =
 
 -- ---- what no call changes
 
-same_map : (xs ys : List ChipState) → length ys ≡ length xs → ((c : ℕ) → c < length xs → (chip_at ys c).part ≡ (chip_at xs c).part)
-    → map (λ (s : ChipState). s.part.stuck) ys ≡ map (λ (s : ChipState). s.part.stuck) xs
-same_map [] [] count each = refl
-same_map [] (y ∷ ys) count each = absurd (omega (arith, count))
-same_map (x ∷ xs) [] count each = absurd (omega (arith, count))
-same_map (x ∷ xs) (y ∷ ys) count each =
-    let first : y.part ≡ x.part = each 0 (omega arith) in
-    let rest : map (λ (s : ChipState). s.part.stuck) ys ≡ map (λ (s : ChipState). s.part.stuck) xs =
-    same_map xs ys (omega (arith, count)) (λ c below. each (suc c) (omega arith)) in
-    λ i. (first i).stuck ∷ rest i
-
-abbrev pub facts_from : Found → List Bool → Facts
-facts_from f stuck = record {
-  geometry = f.geometry;
-  buffer_units = buffer_units_of f.geometry.device f.query.buffer_log;
-  suspend = suspend_of f.query.extended;
-  stuck = stuck;
-}
-
 same_facts : (old new : BankState) → new.found ≡ old.found → KeepsLanes old.bus new.bus → facts_of new ≡ facts_of old
-same_facts old new found lanes =
-    let stuck = same_map old.bus.lanes new.bus.lanes lanes.count (λ c below. (lanes.each c below).part) in
-    λ i. facts_from (found i) (stuck i)
+same_facts old new found lanes = facts_last old new found lanes.count (λ c below. (lanes.each c below).part)
 
 pub lasts_then : (x y z : BusState) → KeepsLanes x y → EachLane Lasts x y → EachLane Lasts y z → EachLane Lasts x z
 lasts_then x y z keeps first next = λ c below.

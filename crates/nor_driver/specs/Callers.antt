@@ -8,8 +8,8 @@ use Rattle.nor_array.specs.declared.entry.Reply.{Reply}
 use Rattle.nor_array.specs.declared.entry.Reply.TheVariants.{Done}
 use Rattle.nor_bank.specs.Calls.{facts_of, given_by}
 use Rattle.nor_bank.specs.State.{BankState}
-use Rattle.nor_turn.specs.Fronts.{Front}
-use Rattle.nor_turn.specs.Passes.{LockView, PassView, IsPassOf, Owns}
+use Rattle.nor_turn.specs.Fronts.{Name, Front}
+use Rattle.nor_turn.specs.Passes.{LockView, PassView, IsPassOf, Owns, Continues, first_pass, kept_half, split_half, both}
 use Rattle.nor_array.specs.Entries.{IsOf, IsAwaited}
 use Rattle.nor_bank.specs.Work.{CanCall}
 use Rattle.nor_driver.specs.Fronts.{entries_of}
@@ -27,6 +27,34 @@ pub record CallerView : Type 0 where
 -- the caller is one of the driver's
 abbrev pub IsCallerOf : DriverView → CallerView → Type 0
 IsCallerOf d c = IsPassOf d c.pass
+
+-- ---- callers made of callers
+
+-- the caller that a driver begins with: number 1, every share and room, nothing seen
+abbrev pub first_caller : DriverView → CallerView
+first_caller d = record { number = 1; pass = first_pass d }
+
+-- what a split leaves a caller: half of its share and of its room
+abbrev pub halved : CallerView → CallerView
+halved c = record c { pass = kept_half c.pass }
+
+-- the caller that is split off under a number: the other half, and the same seen
+abbrev pub split_off : ℕ → CallerView → CallerView
+split_off number c = record { number = number; pass = split_half c.pass }
+
+-- the first caller with all that the second had: both shares and rooms, and the longer of what both have seen
+abbrev pub folded : CallerView → CallerView → CallerView
+folded c d = record c { pass = both c.pass d.pass }
+
+-- ---- what a caller has seen
+
+-- the entry is the caller's own, or of one that it took in
+abbrev pub IsOwn : CallerView → Name × Entry → Type 0
+IsOwn c pair = Owns c.pass pair.0
+
+-- the front is what the caller has seen, and behind it entries of others
+abbrev pub SeesOn : CallerView → Front Entry → Type 0
+SeesOn c front = Continues c.pass front
 
 -- The front begins with the first, and goes on behind it.
 pub record Begins (first front : Front Entry) : Type 0 where

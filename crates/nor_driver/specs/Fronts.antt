@@ -11,7 +11,7 @@ use Rattle.nor_array.specs.Legal.{Legal}
 use Rattle.nor_array.specs.declared.entry.Entry.{Entry}
 use Rattle.nor_array.specs.declared.entry.Halted.TheVariants.{Off as OffHalt}
 use Rattle.nor_array.specs.declared.entry.Op.{Op}
-use Rattle.nor_array.specs.declared.entry.Op.TheVariants.{Read, Program, EraseOpen, Poll, Lock, Unlock, IsLocked, Arm, PowerOn}
+use Rattle.nor_array.specs.declared.entry.Op.TheVariants.{Read, Program, EraseOpen, EraseAll, Poll, Lock, Unlock, IsLocked, Arm, PowerOn}
 use Rattle.nor_array.specs.declared.entry.Reply.{Reply}
 use Rattle.nor_array.specs.declared.entry.Reply.TheVariants.{Done, Opened, Erased, Failed, Halted as HaltedReply}
 use Rattle.nor_array.specs.declared.state.ArmedCut.{ArmedCut}
@@ -35,6 +35,7 @@ abbrev pub is_call : Op → Bool
 is_call (Read at len) = true
 is_call (Program at new) = true
 is_call (EraseOpen b) = true
+is_call EraseAll = true
 is_call Poll = true
 is_call (Lock b) = true
 is_call (Unlock b) = true

@@ -2,8 +2,8 @@
 ghost use Rattle.std.specs.Prelude.{◌≡◌, ℕ, ◌+◌, ◌^◌, ◌<◌, ◌≤◌, [], length, Some, None, IfSome, IfNone, IfOk, IfErr, All, true, false, IsSome};
 ghost use Rattle.nor_array.specs.Array.{ArrayState};
 ghost use Rattle.nor_array.specs.declared.entry.Op.TheVariants.{Read as ReadOp, Program as ProgramOp};
-ghost use Rattle.nor_turn.specs.Passes.{IsPassOf, Continues, Owns, first_pass, kept_half, split_half, both};
-ghost use Rattle.nor_driver.specs.Callers.{IsCallerOf, Begins, Called};
+ghost use Rattle.nor_turn.specs.Passes.{IsPassOf, Continues};
+ghost use Rattle.nor_driver.specs.Callers.{IsCallerOf, Begins, Called, IsOwn, SeesOn, first_caller, folded, halved, split_off};
 ghost use Rattle.nor_driver.specs.Made.{IsSame, IsSameCaller};
 ghost use Rattle.nor_driver.specs.Fronts.{StandsFor};
 
@@ -54,7 +54,7 @@ impl<W: BusWord, B: Bus<W>> Driver<W, B> {
     ) -> Result<(Driver<W, B>, Caller<W, B>), (Bank<W, B>, NoMemory)>
         requires { bank.erase ≡ None }
         ensures driver { IfOk result (λ made. made.0.opening ≡ bank) }
-        ensures caller { IfOk result (λ made. made.1 ≡ record { number = 1; pass = first_pass made.0 }) }
+        ensures caller { IfOk result (λ made. made.1 ≡ first_caller made.0) }
         ensures err { IfErr result (λ back. back.0 ≡ bank) }
     {
         match TurnLock::new(alloc, Held { bank }) {
@@ -73,22 +73,22 @@ impl<W: BusWord, B: Bus<W>> Driver<W, B> {
         requires number { (1 ≤ number) × (number ≤ 8) }
         requires share { 4 ≤ caller.old.pass.share }
         requires room { 4 ≤ caller.old.pass.room }
-        ensures kept { caller.new ≡ record caller.old { pass = kept_half caller.old.pass } }
-        ensures split { result ≡ record { number = number; pass = split_half caller.old.pass } }
+        ensures kept { caller.new ≡ halved caller.old }
+        ensures split { result ≡ split_off number caller.old }
     {
         let pass = self.lock.split(&mut caller.pass);
         Caller { number, pass }
     }
 
     /// Tells `to` what `from` has seen: `to` has then seen what both had. It also takes half of the
-    /// share and of the room of `from`.
+    /// share and of the room of `from`, of which each must have 2 at least.
     pub fn meet(&self, from: &mut Caller<W, B>, to: &mut Caller<W, B>)
         requires from { IsCallerOf self.now from.old }
         requires halves { (2 ≤ from.old.pass.share) × (2 ≤ from.old.pass.room) }
         requires to { IsCallerOf self.now to.old }
-        ensures from { from.new ≡ record from.old { pass = kept_half from.old.pass } }
-        ensures to { to.new ≡ record to.old { pass = both to.old.pass (split_half from.old.pass) } }
-        ensures seen { Begins from.old.pass.seen to.new.pass.seen × Continues to.old.pass to.new.pass.seen }
+        ensures from { from.new ≡ halved from.old }
+        ensures to { to.new ≡ folded to.old (split_off from.old.number from.old) }
+        ensures seen { Begins from.old.pass.seen to.new.pass.seen × SeesOn to.old to.new.pass.seen }
     {
         let pass = self.lock.split(&mut from.pass);
         self.lock.join(&mut to.pass, pass);
@@ -99,22 +99,22 @@ impl<W: BusWord, B: Bus<W>> Driver<W, B> {
     pub fn fold(&self, into: &mut Caller<W, B>, other: Caller<W, B>)
         requires into { IsCallerOf self.now into.old }
         requires other { IsCallerOf self.now other }
-        ensures folded { into.new ≡ record into.old { pass = both into.old.pass other.pass } }
-        ensures into { Continues into.old.pass into.new.pass.seen }
-        ensures other { Continues other.pass into.new.pass.seen }
+        ensures folded { into.new ≡ folded into.old other }
+        ensures into { SeesOn into.old into.new.pass.seen }
+        ensures other { SeesOn other into.new.pass.seen }
     {
         let Caller { number: _, pass } = other;
         self.lock.join(&mut into.pass, pass);
     }
 
-    /// Ends the driver: gives the bank and the length of the history. No other caller may be left. The
-    /// caller has then seen the whole history, for which the bank stands.
+    /// Ends the driver: gives the bank and the length of the history. The caller must have every share,
+    /// so that no other is left. It has seen the whole history, for which the bank stands.
     pub fn shut(self, caller: Caller<W, B>) -> (Bank<W, B>, u64)
         requires own { IsCallerOf self caller }
         requires share { caller.pass.share ≡ 2 ^ 20 }
         ensures bank { StandsFor self.opening caller.pass.seen result.0 }
         ensures count { result.1 ≡ length caller.pass.seen }
-        ensures names { All (λ pair. Owns caller.pass pair.0) caller.pass.seen }
+        ensures names { All (IsOwn caller) caller.pass.seen }
     {
         let Driver { lock } = self;
         let Caller { number: _, pass } = caller;

@@ -8,7 +8,7 @@ use Rattle.nor_cell.specs.Chip.{Part}
 use Rattle.nor_cell.specs.Ranges.{is_ascending_below, begin_units}
 use Rattle.nor_cell.specs.declared.device.Device.{Device}
 use Rattle.nor_io.specs.Fields.{u32_at}
-use Rattle.nor_image.specs.Image.{Field, any_field, tested_field, refusal_of, first_refusal, number_fields, table_field, size_field, weak_field, weak_fields, weak_field_at, least_weak, is_weak_place, cells_field, record_fields, is_size_by, weak_count, table_in, size_in, device_of}
+use Rattle.nor_image.specs.Image.{Field, any_field, tested_field, refusal_of, first_refusal, number_fields, table_field, size_field, weak_field, weak_fields, weak_field_at, least_weak, is_weak_place, lock_fields, cells_field, record_fields, is_size_by, weak_count, table_in, size_in, device_of}
 use Rattle.nor_image.specs.declared.error.ImageError.TheVariants.{BadHeader}
 use Rattle.nor_image.proofs.Joined.{both, join}
 use Rattle.nor_image.proofs.ReadBack.{SaysKept}
@@ -66,10 +66,10 @@ least_right file at size (suc k) places read ascending below =
     let above = next_above size places k ascending below in
     omega arith
 
-weak_right : (file : List ℕ) (at : ℕ) (device : Device) (part : Part) (cells : List ℕ) (suspends erases : ℕ) → SaysKept file at part cells suspends erases
+weak_right : (file : List ℕ) (at : ℕ) (device : Device) (part : Part) (locks : List Bool) (cells : List ℕ) (suspends erases : ℕ) → SaysKept file at part locks cells suspends erases
     → device_of file ≡ device → IsTrue (is_ascending_below (length cells) part.weak) → IsTrue (begin_units device part.weak)
     → (k : ℕ) → k < length part.weak → refusal_of file (weak_field file at k) ≡ None
-weak_right file at device part cells suspends erases says device_is ascending whole k below =
+weak_right file at device part locks cells suspends erases says device_is ascending whole k below =
     let place = says.places k below in
     let fits : is_weak_place device (length cells) (least_weak file at k) (get_or part.weak k 0) ≡ true =
     place_right device (length cells) (least_weak file at k) (get_or part.weak k 0)
@@ -88,13 +88,13 @@ all_weak_right file at n (suc k) right few =
     goes_on file (weak_fields file at k) (weak_field file at k ∷ []) (all_weak_right file at n k right (omega arith)) ∙ or_none (refusal_of file (weak_field file at k)) None (right k (omega arith))
 
 -- a byte that says yes or no
-bit_right : (b : Bool) → nat_le (from_bool b) 1 ≡ true
+pub bit_right : (b : Bool) → nat_le (from_bool b) 1 ≡ true
 bit_right true = refl
 bit_right false = refl
 
-numbers_right : (file : List ℕ) (at : ℕ) (part : Part) (cells : List ℕ) (suspends erases : ℕ) → SaysKept file at part cells suspends erases
+numbers_right : (file : List ℕ) (at : ℕ) (part : Part) (locks : List Bool) (cells : List ℕ) (suspends erases : ℕ) → SaysKept file at part locks cells suspends erases
     → part.pace_suspend ≤ 16 → length part.weak ≤ 256 → first_refusal file (number_fields file at) ≡ None
-numbers_right file at part cells suspends erases says pace few =
+numbers_right file at part locks cells suspends erases says pace few =
     let end = says.whole in
     let pace_is : nat_le (slice_index file (at + 8)) 16 ≡ true = (let same = says.pace_suspend in grind (arith, nat_tests)) in
     let stuck_is : nat_le (slice_index file (at + 9)) 1 ≡ true = ap (λ n. nat_le n 1) says.stuck ∙ bit_right part.stuck in
@@ -113,17 +113,19 @@ size_right file c at whole fits same =
     right_field file (size_field file c at) (omega arith) (rw fits (let equal : (size_in file at == size_in file 12) ≡ true = grind (arith, nat_tests) in rw equal refl))
 
 -- no field of a written record is refused
-pub record_right : (file : List ℕ) (c at : ℕ) (device : Device) (part : Part) (cells : List ℕ) (suspends erases : ℕ) → SaysKept file at part cells suspends erases
+pub record_right : (file : List ℕ) (c at : ℕ) (device : Device) (part : Part) (locks : List Bool) (cells : List ℕ) (suspends erases : ℕ)
+    → SaysKept file at part locks cells suspends erases
     → device_of file ≡ device → part.pace_suspend ≤ 16 → length part.weak ≤ 256
     → IsTrue (is_ascending_below (length cells) part.weak) → IsTrue (begin_units device part.weak)
     → IsTrue (is_size_by part.table (length cells)) → length cells ≡ size_in file 12
+    → first_refusal file (lock_fields file c at) ≡ None
     → first_refusal file (record_fields file c at) ≡ None
-record_right file c at device part cells suspends erases says device_is pace few ascending whole fits same =
+record_right file c at device part locks cells suspends erases says device_is pace few ascending whole fits same locks_right =
     let end = says.whole in
-    let weak = all_weak_right file at (length part.weak) (weak_count file at) (weak_right file at device part cells suspends erases says device_is ascending whole) (let count = says.count in omega arith) in
+    let weak = all_weak_right file at (length part.weak) (weak_count file at) (weak_right file at device part locks cells suspends erases says device_is ascending whole) (let count = says.count in omega arith) in
     in_cells file c at
-    (numbers_right file at part cells suspends erases says pace few)
+    (numbers_right file at part locks cells suspends erases says pace few)
     (right_field file (table_field at) (omega arith) refl)
     (size_right file c at (omega arith) ((λ i. is_size_by (says.table i) (says.size i)) ∙ fits) (says.size ∙ same))
-    weak
+    weak locks_right
     ∙ right_field file (cells_field file at) end refl

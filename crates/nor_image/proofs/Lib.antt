@@ -1,7 +1,12 @@
 pub mod Accepting
+pub mod Agreeing
+pub mod BlockCounts
+pub mod CellLocks
 pub mod Images
 pub mod Joined
+pub mod LaneLocks
 pub mod Lanes
+pub mod LockBits
 pub mod Putting
 pub mod ReadBack
 pub mod Records

@@ -1,5 +1,5 @@
 -- What the fields of a record refuse, and the chip that it stores.
-use Rattle.std.proofs.Common.{◌≡◌, ◌+◌, ◌==◌, ℕ, List, [], ◌∷◌, ◌++◌, length, replicate, false, slice_index, refl, ap, ◌∙◌, Option, Some, None}
+use Rattle.std.proofs.Common.{◌≡◌, ◌+◌, ◌==◌, ℕ, List, [], ◌∷◌, ◌++◌, slice_index, refl, ap, ◌∙◌, Option, Some, None}
 use Rattle.std.specs.Option.{option_or}
 use Rattle.nor_cell.specs.Cells.{chip_of}
 use Rattle.nor_cell.specs.Power.{powered}
@@ -9,7 +9,7 @@ use Rattle.nor_cell.specs.declared.device.Set.{Set}
 use Rattle.nor_bus.specs.Bus.{no_chip}
 use Rattle.nor_io.specs.Fields.{u32_at}
 use Rattle.nor_query.specs.Derived.{table_blocks}
-use Rattle.nor_image.specs.Image.{Field, first_refusal, refusal_of, record_fields, number_fields, table_field, size_field, weak_fields, cells_field, weak_count, table_in, weak_in, bytes_at, cells_at, size_in, chip_in}
+use Rattle.nor_image.specs.Image.{Field, first_refusal, refusal_of, record_fields, number_fields, table_field, size_field, weak_fields, lock_fields, cells_field, weak_count, locks_of, table_in, weak_in, bytes_at, cells_at, size_in, chip_in}
 use Rattle.nor_image.specs.declared.error.ImageError.{ImageError}
 use Rattle.nor_image.proofs.Refusals.{or_none, or_some, first_refusal-append}
 
@@ -23,14 +23,18 @@ pub in_parts : (file : List ℕ) (c at : ℕ) → first_refusal file (record_fie
     option_or (first_refusal file (number_fields file at))
     (option_or (refusal_of file (table_field at))
     (option_or (refusal_of file (size_field file c at))
-    (option_or (first_refusal file (weak_fields file at (weak_count file at))) (refusal_of file (cells_field file at)))))
+    (option_or (first_refusal file (weak_fields file at (weak_count file at)))
+    (option_or (first_refusal file (lock_fields file c at)) (refusal_of file (cells_field file at))))))
 unfolding record_fields
 in_parts file c at =
     let weak = weak_fields file at (weak_count file at) in
+    let locks = lock_fields file c at in
     let cells : List Field = cells_field file at ∷ [] in
-    let last : first_refusal file (weak ++ cells) ≡ option_or (first_refusal file weak) (refusal_of file (cells_field file at)) =
-    first_refusal-append file weak cells ∙ ap (option_or (first_refusal file weak)) (or_nil (refusal_of file (cells_field file at))) in
-    first_refusal-append file (number_fields file at) (table_field at ∷ size_field file c at ∷ (weak ++ cells))
+    let behind : first_refusal file (locks ++ cells) ≡ option_or (first_refusal file locks) (refusal_of file (cells_field file at)) =
+    first_refusal-append file locks cells ∙ ap (option_or (first_refusal file locks)) (or_nil (refusal_of file (cells_field file at))) in
+    let last : first_refusal file (weak ++ (locks ++ cells)) ≡ option_or (first_refusal file weak) (option_or (first_refusal file locks) (refusal_of file (cells_field file at))) =
+    first_refusal-append file weak (locks ++ cells) ∙ ap (option_or (first_refusal file weak)) behind in
+    first_refusal-append file (number_fields file at) (table_field at ∷ size_field file c at ∷ (weak ++ (locks ++ cells)))
     ∙ ap (λ (o : Option ImageError). option_or (first_refusal file (number_fields file at)) (option_or (refusal_of file (table_field at)) (option_or (refusal_of file (size_field file c at)) o))) last
 
 -- a refusal in one part, where those before it are right
@@ -50,11 +54,20 @@ pub in_weak : (file : List ℕ) (c at : ℕ) (e : ImageError) → first_refusal 
     → first_refusal file (weak_fields file at (weak_count file at)) ≡ Some e → first_refusal file (record_fields file c at) ≡ Some e
 in_weak file c at e numbers table size h = in_parts file c at ∙ (or_none _ _ numbers ∙ (or_none _ _ table ∙ (or_none _ _ size ∙ or_some _ _ e h)))
 
+pub in_locks : (file : List ℕ) (c at : ℕ) (e : ImageError) → first_refusal file (number_fields file at) ≡ None
+    → refusal_of file (table_field at) ≡ None → refusal_of file (size_field file c at) ≡ None
+    → first_refusal file (weak_fields file at (weak_count file at)) ≡ None
+    → first_refusal file (lock_fields file c at) ≡ Some e → first_refusal file (record_fields file c at) ≡ Some e
+in_locks file c at e numbers table size weak h =
+    in_parts file c at ∙ (or_none _ _ numbers ∙ (or_none _ _ table ∙ (or_none _ _ size ∙ (or_none _ _ weak ∙ or_some _ _ e h))))
+
 -- the cells decide, where all else is right
 pub in_cells : (file : List ℕ) (c at : ℕ) → first_refusal file (number_fields file at) ≡ None
     → refusal_of file (table_field at) ≡ None → refusal_of file (size_field file c at) ≡ None
-    → first_refusal file (weak_fields file at (weak_count file at)) ≡ None → first_refusal file (record_fields file c at) ≡ refusal_of file (cells_field file at)
-in_cells file c at numbers table size weak = in_parts file c at ∙ (or_none _ _ numbers ∙ (or_none _ _ table ∙ (or_none _ _ size ∙ or_none _ _ weak)))
+    → first_refusal file (weak_fields file at (weak_count file at)) ≡ None → first_refusal file (lock_fields file c at) ≡ None
+    → first_refusal file (record_fields file c at) ≡ refusal_of file (cells_field file at)
+in_cells file c at numbers table size weak locks =
+    in_parts file c at ∙ (or_none _ _ numbers ∙ (or_none _ _ table ∙ (or_none _ _ size ∙ (or_none _ _ weak ∙ or_none _ _ locks))))
 
 -- The cells of a record make the chip that it stores.
 pub record IsMade (file : List ℕ) (device : Device) (at : ℕ) (cells : Cells) : Type 0 where
@@ -67,7 +80,7 @@ pub record IsMade (file : List ℕ) (device : Device) (at : ℕ) (cells : Cells)
   pub pace_erase : cells.pace_erase ≡ u32_at file (at + 4)
   pub pace_suspend : cells.pace_suspend ≡ slice_index file (at + 8)
   pub bytes : cells.bytes.items ≡ bytes_at file (cells_at file at) (size_in file at)
-  pub locks : cells.locks.items ≡ replicate (length (table_blocks (table_in file at))) false
+  pub locks : cells.locks.items ≡ locks_of file at
   pub suspends : cells.suspends ≡ u32_at file (at + 12)
   pub erases : cells.erases ≡ u32_at file (at + 16)
 

@@ -1,11 +1,11 @@
 -- The first refusal among fields.
-use Rattle.std.proofs.Common.{◌≡◌, ◌≢◌, ◌<◌, ◌≤◌, ◌⊎◌, inl, inr, ℕ, zero, suc, List, [], ◌∷◌, ◌++◌, length, true, false, nat_lt, refl, sym, ap, subst, ◌∙◌, arith, Option, Some, None}
+use Rattle.std.proofs.Common.{◌≡◌, ◌≢◌, ◌<◌, ◌≤◌, ◌⊎◌, inl, inr, ◌+◌, ℕ, zero, suc, List, [], ◌∷◌, ◌++◌, length, get_or, Bool, true, false, nat_lt, refl, sym, ap, subst, ◌∙◌, arith, if◌then◌else◌, Option, Some, None}
 use Rattle.std.proofs.lemmas.Bool.{cases_eq}
 use Rattle.std.proofs.lemmas.Bool.Decides.{nat_tests}
 use Rattle.std.specs.Option.{option_or}
-use Rattle.nor_image.specs.Image.{Field, any_field, first_refusal, refusal_of, trailing}
+use Rattle.nor_image.specs.Image.{Field, any_field, tested_field, first_refusal, refusal_of, trailing}
 use Rattle.nor_image.specs.declared.error.ImageError.{ImageError}
-use Rattle.nor_image.specs.declared.error.ImageError.TheVariants.{Trailing}
+use Rattle.nor_image.specs.declared.error.ImageError.TheVariants.{BadHeader, Truncated, Trailing}
 
 -- nothing is refused first, so what follows decides
 pub or_none : (p q : Option ImageError) → p ≡ None → option_or p q ≡ q
@@ -65,3 +65,35 @@ pub ends : (file : List ℕ) (end : ℕ) → length file ≤ end → trailing fi
 ends file end h =
     let not_longer : nat_lt end (length file) ≡ false = grind (arith, nat_tests) in
     rw not_longer refl
+
+-- ---- what it says that nothing is refused
+
+-- nothing is refused in either part
+pub none_both : (p q : Option ImageError) → option_or p q ≡ None → (p ≡ None) × (q ≡ None)
+none_both None q h = (refl, h)
+none_both (Some e) q h = absurd (cc)
+
+pub whole_or : (short : Bool) (e : ImageError) (bad : Option ImageError) → (if short then Some e else bad) ≡ None → (short ≡ false) × (bad ≡ None)
+whole_or true e bad h = absurd (cc)
+whole_or false e bad h = (refl, h)
+
+-- a field that isn't refused is whole
+pub field_whole : (file : List ℕ) (field : Field) → refusal_of file field ≡ None → field.at + field.size ≤ length file
+field_whole file field h =
+    let enough = (whole_or (nat_lt (length file) (field.at + field.size)) (Truncated (length file)) field.bad h).0 in
+    grind (arith, nat_tests)
+
+pub passes : (valid : Bool) (e : ImageError) → (if valid then None else Some e) ≡ None → valid ≡ true
+passes true e h = refl
+passes false e h = absurd (cc)
+
+-- and passes its test
+pub field_passes : (file : List ℕ) (at size : ℕ) (valid : Bool) → refusal_of file (tested_field at size valid) ≡ None → valid ≡ true
+field_passes file at size valid h =
+    passes valid (BadHeader at) (whole_or (nat_lt (length file) (at + size)) (Truncated (length file)) (if valid then None else Some (BadHeader at)) h).1
+
+-- field k of fields of which none is refused
+pub field_none : (file : List ℕ) (fields : List Field) (k : ℕ) (d : Field) → first_refusal file fields ≡ None → k < length fields → refusal_of file (get_or fields k d) ≡ None
+field_none file [] k d none below = absurd (omega arith)
+field_none file (field ∷ fields) zero d none below = (none_both (refusal_of file field) (first_refusal file fields) none).0
+field_none file (field ∷ fields) (suc k) d none below = field_none file fields k d (none_both (refusal_of file field) (first_refusal file fields) none).1 (omega arith)

@@ -1,23 +1,37 @@
 -- The file of a bank: its fields in the order of reading, the first that is refused, and the chips of a well formed file.
-use Rattle.std.specs.Prelude.{◌≡◌, ◌<◌, ◌+◌, ◌*◌, ◌%◌, ◌^◌, ℕ, zero, suc, List, [], ◌∷◌, ◌++◌, length, slice_index, take, drop, replicate, codes, Bool, false, ◌==◌, ◌&&◌, ◌||◌, not, nat_eq, nat_lt, nat_le, if◌then◌else◌, Option, Some, None}
-use Rattle.std.specs.List.{starts_with}
+use Rattle.std.specs.Prelude.{◌≡◌, ◌<◌, ◌+◌, ◌*◌, ◌%◌, ◌^◌, ℕ, zero, suc, List, [], ◌∷◌, ◌++◌, length, slice_index, slice_index_or, take, drop, codes, Bool, true, false, ◌==◌, ◌&&◌, ◌||◌, not, nat_eq, nat_lt, nat_le, if◌then◌else◌, Option, Some, None}
+use Rattle.std.specs.List.{starts_with, list_all}
 use Rattle.std.specs.Option.{option_or}
 use Rattle.nor_cell.specs.Bits.{unit_len}
+use Rattle.nor_cell.specs.Cells.{given_or_open}
 use Rattle.nor_cell.specs.Chip.{ChipState, Part}
 use Rattle.nor_cell.specs.Power.{powered}
 use Rattle.nor_cell.specs.Ranges.{is_chip_size}
-use Rattle.nor_cell.specs.Table.{field_8, set_of}
+use Rattle.nor_cell.specs.Table.{field_8, has_locks, set_of}
 use Rattle.nor_cell.specs.Wiring.{is_wiring}
 use Rattle.nor_cell.specs.declared.device.Device.{Device}
 use Rattle.nor_cell.specs.declared.device.Device.TheVariants.{X8, X16, X16Byte}
 use Rattle.nor_cell.specs.declared.device.Set.{Set}
+use Rattle.nor_cell.specs.declared.device.Set.TheVariants.{Intel, Amd}
 use Rattle.nor_bus.specs.Bus.{chip_at, no_chip}
 use Rattle.nor_io.specs.Fields.{u16_at, u32_at}
 use Rattle.nor_query.specs.Derived.{table_blocks}
 use Rattle.nor_image.specs.declared.error.ImageError.{ImageError}
 use Rattle.nor_image.specs.declared.error.ImageError.TheVariants.{BadMagic, BadHeader, Truncated, Trailing, SizeDiffers, NoMemory}
+use Rattle.nor_image.specs.declared.header.Version.{Version}
+use Rattle.nor_image.specs.declared.header.Version.TheVariants.{One, Two}
 
 -- ---- what the header says
+
+abbrev pub magic_of : Version → List ℕ
+magic_of One = codes "NORBANK1"
+magic_of Two = codes "NORBANK2"
+
+abbrev pub is_magic : List ℕ → Version → Bool
+is_magic file version = starts_with nat_eq file (magic_of version)
+
+abbrev pub version_of : List ℕ → Version
+version_of file = if is_magic file Two then Two else One
 
 abbrev pub width_of : List ℕ → ℕ
 width_of file = slice_index file 8
@@ -55,8 +69,48 @@ abbrev pub weak_in : List ℕ → ℕ → ℕ → List ℕ
 weak_in file at zero = []
 weak_in file at (suc k) = weak_in file at k ++ u32_at file (weak_field_at at k) ∷ []
 
+-- the set of all chips, by the table of lane 0
+abbrev pub machine_of : List ℕ → Set
+machine_of file = set_of (table_in file 12)
+
+-- whether a chip of this set with this table keeps its locks without power
+abbrev pub keeps_locks : Set → List ℕ → Bool
+keeps_locks Intel table = false
+keeps_locks Amd table = has_locks table
+
+-- The locks that a chip keeps without power: all that it has, or none.
+abbrev pub kept_locks : Set → List ℕ → List Bool → List Bool
+kept_locks set table locks = if keeps_locks set table then locks else []
+
+-- how many locks the record of a chip with this table stores: version 1 stores none
+abbrev pub stored_count : Version → Set → List ℕ → ℕ
+stored_count One set table = 0
+stored_count Two set table = if keeps_locks set table then length (table_blocks table) else 0
+
+-- how many bytes they take: in version 2 their number, and a byte for each
+abbrev pub locks_len : Version → ℕ → ℕ
+locks_len One count = 0
+locks_len Two count = 4 + count
+
+unfoldable pub lock_count : List ℕ → ℕ → ℕ
+lock_count file at = stored_count (version_of file) (machine_of file) (table_in file at)
+
+-- where they stand: behind the weak places
+abbrev pub locks_at : List ℕ → ℕ → ℕ
+locks_at file at = weak_field_at at (weak_count file at)
+
+-- n locks, the first of which stands at a place
+abbrev pub locks_from : List ℕ → ℕ → ℕ → List Bool
+locks_from file at zero = []
+locks_from file at (suc k) = locks_from file at k ++ (slice_index file (at + k) == 1) ∷ []
+
+-- the locks of the chip: where none are stored, one for each block that isn't set
+unfoldable pub locks_of : List ℕ → ℕ → List Bool
+locks_of file at =
+    given_or_open (locks_from file (locks_at file at + 4) (lock_count file at)) (length (table_blocks (table_in file at)))
+
 abbrev pub cells_at : List ℕ → ℕ → ℕ
-cells_at file at = weak_field_at at (weak_count file at)
+cells_at file at = locks_at file at + locks_len (version_of file) (lock_count file at)
 
 abbrev pub record_end : List ℕ → ℕ → ℕ
 record_end file at = cells_at file at + size_in file at
@@ -66,9 +120,14 @@ abbrev pub record_place : List ℕ → ℕ → ℕ
 record_place file zero = 12
 record_place file (suc c) = record_end file (record_place file c)
 
--- the set of all chips, by the table of lane 0
-abbrev pub machine_of : List ℕ → Set
-machine_of file = set_of (table_in file 12)
+-- the locks that the chip of a record keeps without power
+abbrev pub kept_in : List ℕ → ℕ → List Bool
+kept_in file at = kept_locks (machine_of file) (table_in file at) (locks_of file at)
+
+-- those of the first n lanes
+abbrev pub kept_before : List ℕ → ℕ → List (List Bool)
+kept_before file zero = []
+kept_before file (suc c) = kept_before file c ++ kept_in file (record_place file c) ∷ []
 
 -- ---- fields, and the first refusal
 
@@ -97,7 +156,7 @@ first_refusal file (field ∷ fields) = option_or (refusal_of file field) (first
 -- ---- the fields of the header
 
 abbrev pub magic_field : List ℕ → Field
-magic_field file = record { at = 0; size = 8; bad = if starts_with nat_eq file (codes "NORBANK1") then None else Some BadMagic }
+magic_field file = record { at = 0; size = 8; bad = if is_magic file One || is_magic file Two then None else Some BadMagic }
 
 abbrev pub is_width : ℕ → Bool
 is_width n = n == 1 || n == 2 || n == 4 || n == 8
@@ -164,12 +223,45 @@ abbrev pub weak_fields : List ℕ → ℕ → ℕ → List Field
 weak_fields file at zero = []
 weak_fields file at (suc k) = weak_fields file at k ++ weak_field file at k ∷ []
 
+-- a number at a place that has to be this one
+abbrev pub count_field : List ℕ → (at count : ℕ) → Field
+count_field file at count = tested_field at 4 (u32_at file at == count)
+
+abbrev pub same_lock : Bool → Bool → Bool
+same_lock true b = b
+same_lock false b = not b
+
+-- No lane of these that keeps so many locks has another one as its number k.
+abbrev pub is_agreed : List (List Bool) → (count k : ℕ) → Bool → Bool
+is_agreed before count k locked =
+    list_all (λ locks. not (length locks == count) || same_lock (slice_index_or locks k false) locked) before
+
+-- A byte for lock k of so many: 1 where the block is locked, else 0, and as in each lane before that keeps as many.
+abbrev pub is_lock_byte : List (List Bool) → (count k byte : ℕ) → Bool
+is_lock_byte before count k byte = nat_le byte 1 && is_agreed before count k (byte == 1)
+
+-- those of the first n locks, from a place on
+abbrev pub each_lock : List ℕ → List (List Bool) → (at count n : ℕ) → List Field
+each_lock file before at count zero = []
+each_lock file before at count (suc k) =
+    each_lock file before at count k ++ tested_field (at + k) 1 (is_lock_byte before count k (slice_index file (at + k))) ∷ []
+
+-- the number of locks, and each of them; version 1 has neither
+abbrev pub lock_fields_of : Version → List ℕ → List (List Bool) → (at count : ℕ) → List Field
+lock_fields_of One file before at count = []
+lock_fields_of Two file before at count = count_field file at count ∷ each_lock file before (at + 4) count count
+
+-- those of a record
+unfoldable pub lock_fields : List ℕ → ℕ → ℕ → List Field
+lock_fields file c at = lock_fields_of (version_of file) file (kept_before file c) (locks_at file at) (lock_count file at)
+
 abbrev pub cells_field : List ℕ → ℕ → Field
 cells_field file at = any_field (cells_at file at) (size_in file at)
 
 unfoldable pub record_fields : List ℕ → ℕ → ℕ → List Field
 record_fields file c at =
-    number_fields file at ++ (table_field at ∷ size_field file c at ∷ (weak_fields file at (weak_count file at) ++ cells_field file at ∷ []))
+    number_fields file at
+    ++ (table_field at ∷ size_field file c at ∷ (weak_fields file at (weak_count file at) ++ (lock_fields file c at ++ cells_field file at ∷ [])))
 
 -- the header's fields and those of the first n records
 abbrev pub fields_before : List ℕ → ℕ → List Field
@@ -203,12 +295,12 @@ part_in file set device at = record {
   pace_suspend = slice_index file (at + 8);
 }
 
--- That chip, just powered on: modes, jobs and locks aren't stored.
+-- That chip, just powered on: modes and jobs aren't stored.
 abbrev pub chip_in : List ℕ → Set → Device → ℕ → ChipState
 chip_in file set device at = powered (record no_chip {
   part = part_in file set device at;
   cells = bytes_at file (cells_at file at) (size_in file at);
-  locks = replicate (length (table_blocks (table_in file at))) false;
+  locks = locks_of file at;
   suspends = u32_at file (at + 12);
   erases = u32_at file (at + 16);
 })

@@ -1,5 +1,5 @@
 -- What a step of reading answers.
-use Rattle.std.specs.Prelude.{◌≡◌, ◌≢◌, ◌<◌, ◌≤◌, ◌+◌, ◌==◌, ℕ, List, length, map, IsTrue, slice_index, Option, Some, None, Result, Ok, Err}
+use Rattle.std.specs.Prelude.{◌≡◌, ◌≢◌, ◌<◌, ◌≤◌, ◌+◌, ◌*◌, ◌==◌, ℕ, List, length, map, Bool, IsTrue, slice_index, Option, Some, None, Result, Ok, Err}
 use Rattle.nor_cell.specs.Bits.{AreBytes}
 use Rattle.nor_cell.specs.Cells.{chip_of}
 use Rattle.nor_cell.specs.Chip.{ChipState}
@@ -10,10 +10,11 @@ use Rattle.nor_cell.specs.declared.device.Device.{Device}
 use Rattle.nor_cell.specs.declared.device.Set.{Set}
 use Rattle.nor_bus.specs.Bus.{chip_at}
 use Rattle.nor_io.specs.Fields.{u32_at}
-use Rattle.nor_image.specs.Image.{device_of, width_of, lanes_of_file, weak_count, size_in, record_place, chip_in, is_size_by}
+use Rattle.nor_image.specs.Image.{version_of, device_of, width_of, lanes_of_file, weak_count, table_in, size_in, locks_of, locks_len, kept_locks, record_place, chip_in, is_size_by}
 use Rattle.nor_image.specs.declared.error.ImageError.{ImageError}
 use Rattle.nor_image.specs.declared.error.ImageError.TheVariants.{BadMagic, BadHeader, Truncated, Trailing, SizeDiffers, NoMemory}
 use Rattle.nor_image.specs.declared.header.Header.{Header}
+use Rattle.nor_image.specs.declared.header.Version.{Version}
 use Rattle.nor_image.specs.declared.record.Numbers.{Numbers}
 
 -- an error that the file's bytes give
@@ -37,6 +38,7 @@ MayRead refusal P (Err e) = e ≢ NoMemory → (refusal ≡ Some e) × IsRefusal
 
 -- what the header says
 pub record IsHeader (file : List ℕ) (header : Header) : Type 0 where
+  pub version : header.version ≡ version_of file
   pub width : header.width ≡ width_of file
   pub lanes : header.geometry.lanes ≡ lanes_of_file file
   pub device : header.geometry.device ≡ device_of file
@@ -54,15 +56,30 @@ pub record AreNumbers (file : List ℕ) (at : ℕ) (numbers : Numbers) : Type 0 
   pub suspends : numbers.suspends ≡ u32_at file (at + 12)
   pub erases : numbers.erases ≡ u32_at file (at + 16)
 
+-- how long the record of a chip with these cells is
+abbrev pub record_len : Version → Set → Cells → ℕ
+record_len version set cells =
+    536 + 4 * length cells.weak.items + locks_len version (length (kept_locks set cells.table cells.locks.items)) + length cells.bytes.items
+
 -- the cells that the record at a place stores
 pub record AreStored (file : List ℕ) (device : Device) (at : ℕ) (cells : Cells) : Type 0 where
   pub chip : (set : Set) → powered (chip_of set cells) ≡ chip_in file set device at
+  pub table : cells.table ≡ table_in file at
   pub weak : length cells.weak.items ≡ weak_count file at
+  pub locks : cells.locks.items ≡ locks_of file at
   pub size : length cells.bytes.items ≡ size_in file at
   pub bytes : AreBytes cells.bytes.items
   pub fits : IsTrue (is_size_by cells.table (length cells.bytes.items))
   -- as many as lane 0's chip has
   pub same : length cells.bytes.items ≡ size_in file 12
+  -- no more blocks than bytes
+  pub few_blocks : length cells.blocks.items ≤ length cells.bytes.items
+  -- lane 0's table, which names the set of all, is whole
+  pub first_table : 544 ≤ length file
+
+-- the locks that chips with these cells keep without power
+abbrev pub kept_of_each : Set → List Cells → List (List Bool)
+kept_of_each set lanes = map (λ (cells : Cells). kept_locks set cells.table cells.locks.items) lanes
 
 -- the chips that cells make, just powered on
 abbrev pub chips_of : Set → List Cells → List ChipState

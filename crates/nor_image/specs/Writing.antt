@@ -4,15 +4,19 @@ use Rattle.nor_cell.specs.Cells.{part_of}
 use Rattle.nor_cell.specs.Chip.{ChipState, Part}
 use Rattle.nor_cell.specs.Ranges.{IsChip}
 use Rattle.nor_cell.specs.declared.cells.Cells.{Cells}
+use Rattle.nor_cell.specs.declared.device.Set.{Set}
 use Rattle.nor_cell.specs.declared.device.Set.TheVariants.{Intel}
+use Rattle.nor_image.specs.Image.{kept_locks}
 use Rattle.nor_image.specs.Written.{number_bytes, kept_bytes}
+use Rattle.nor_image.specs.declared.header.Version.TheVariants.{Two}
 
--- what the record of a chip with these cells says first, and the whole of it: the set isn't stored
+-- what the record of a chip with these cells says first, and the whole of it: the set of the chip isn't stored, and the machine of all says which locks are
 abbrev pub numbers_of : Cells → List ℕ
 numbers_of cells = number_bytes (part_of Intel cells) cells.suspends cells.erases
 
-abbrev pub record_of : Cells → List ℕ
-record_of cells = kept_bytes (part_of Intel cells) cells.bytes.items cells.suspends cells.erases
+abbrev pub record_of : Set → Cells → List ℕ
+record_of set cells =
+    kept_bytes Two (part_of Intel cells) (kept_locks set cells.table cells.locks.items) cells.bytes.items cells.suspends cells.erases
 
 -- Behind what stands before a place, the file has these bytes now, up to the place where the next go.
 pub record Puts (bytes : List ℕ) (at : ℕ) (old new : List ℕ) (end : ℕ) : Type 0 where

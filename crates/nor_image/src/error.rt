@@ -3,7 +3,7 @@ use std::alloc::{AllocError, AllocFailed};
 /// Why a file stands for no bank. Places are in bytes from the file's start.
 #[derive(Clone, Copy, Debug, PartialEq, Eq)]
 pub enum ImageError {
-    /// The file begins with other eight bytes than `NORBANK1`.
+    /// The file begins with other eight bytes than `NORBANK1` and `NORBANK2`.
     BadMagic,
     /// The field at this place has a value that it may not have.
     BadHeader { at: u32 },

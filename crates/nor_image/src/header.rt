@@ -1,27 +1,51 @@
-ghost use Rattle.std.specs.Prelude.{◌≡◌, slice_index, nat_le};
+ghost use Rattle.std.specs.Prelude.{◌≡◌, slice_index, nat_le, codes};
 ghost use Rattle.nor_cell.specs.Wiring.{is_wiring};
-ghost use Rattle.nor_image.specs.Image.{magic_field, tested_field, refusal_of, first_refusal, header_fields, is_width, width_of, device_of, device_of_code, lanes_of_file};
+ghost use Rattle.nor_image.specs.Image.{magic_of, is_magic, version_of, magic_field, tested_field, refusal_of, first_refusal, header_fields, is_width, width_of, device_of, device_of_code, lanes_of_file};
 ghost use Rattle.nor_image.specs.Reading.{Reads, IsHeader};
 
 use crate::ImageError;
 use crate::fields::{byte_field, byte_up_to, bytes_field, check};
 use nor_cell::{Device, Geometry, make_geometry};
 
-pub const MAGIC: &[u8; 8] = b"NORBANK1";
+/// A version of the file: only the second one has the locks that chips keep without power.
+#[derive(Clone, Copy)]
+pub enum Version {
+    One,
+    Two,
+}
 
-/// What the header says: the width in bytes, the lanes and the device.
+/// How a file of this version begins.
+pub fn magic_of(version: Version) -> [u8; 8]
+    ensures { result ≡ magic_of version }
+{
+    match version {
+        Version::One => *b"NORBANK1",
+        Version::Two => *b"NORBANK2",
+    }
+}
+
+/// What the header says: the version, the width in bytes, the lanes and the device.
 #[derive(Clone, Copy)]
 pub struct Header {
+    pub version: Version,
     pub width: u8,
     pub geometry: Geometry,
 }
 
-fn read_magic(file: &[u8]) -> Result<(), ImageError>
-    ensures { Reads (refusal_of file.now (magic_field file.now)) (λ _. Unit {0}) result }
+fn is_magic(file: &[u8], version: Version) -> bool
+    ensures { result ≡ is_magic file.now version }
+{
+    file.starts_with(&magic_of(version))
+}
+
+fn read_version(file: &[u8]) -> Result<Version, ImageError>
+    ensures { Reads (refusal_of file.now (magic_field file.now)) (λ version. version ≡ version_of file.now) result }
 {
     bytes_field(file, 0, 8)?;
-    if file.starts_with(MAGIC) {
-        Ok(())
+    if is_magic(file, Version::Two) {
+        Ok(Version::Two)
+    } else if is_magic(file, Version::One) {
+        Ok(Version::One)
     } else {
         Err(ImageError::BadMagic)
     }
@@ -65,10 +89,14 @@ fn read_geometry(file: &[u8], width: u8, device: Device) -> Result<Geometry, Ima
 pub fn read_header(file: &[u8]) -> Result<Header, ImageError>
     ensures { Reads (first_refusal file.now (header_fields file.now)) (IsHeader file.now) result }
 {
-    read_magic(file)?;
+    let version = read_version(file)?;
     let width = read_width(file)?;
     let device = read_device(file)?;
     let geometry = read_geometry(file, width, device)?;
     byte_up_to(file, 11, 0)?;
-    Ok(Header { width, geometry })
+    Ok(Header {
+        version,
+        width,
+        geometry,
+    })
 }

@@ -2,7 +2,7 @@
 //!
 //! | Place | Bytes | Header |
 //! |---|---|---|
-//! | 0 | 8 | `NORBANK1` |
+//! | 0 | 8 | `NORBANK1` or `NORBANK2`, which tells the version |
 //! | 8 | 1 | width of the bus in bytes: 1, 2, 4 or 8 |
 //! | 9 | 1 | device: 0 X8, 1 X16, 2 X16Byte |
 //! | 10 | 1 | lanes, so that the three are one of the nine wirings |
@@ -20,15 +20,20 @@
 //! | 20 | 512 | query table |
 //! | 532 | 4 | size in bytes: a power of two from 2^12 to 2^27, and that of the table where it gives one |
 //! | 536 | 4n | weak places: strictly ascending, each at a unit's first byte, below the size |
-//! | 536 + 4n | size | cells |
+//! | 536 + 4n | 4 | version 2: number k of locks |
+//! | 540 + 4n | k | version 2: a byte for each lock, 1 where it is set, else 0 |
+//! | then | size | cells |
 //!
-//! All chips have lane 0's size, and are of the set that lane 0's table names. Locks, modes and jobs
-//! aren't stored: a bank that is loaded was just powered on.
+//! All chips have lane 0's size, and are of the set that lane 0's table names. k is the number of
+//! blocks where that is set 0002, which keeps locks without power, and the lane's table is one that
+//! is accepted and offers locks; else it is 0. Lanes with equally many locks have the same ones.
+//! Modes and jobs aren't stored, and in version 1 no lock is set: a bank that is loaded was just
+//! powered on.
 //!
 //! [`read_image`] answers such a bank exactly where the file is well formed, and else the first
 //! refusal, field by field, at its place. [`write_image`] and [`fill_image`] give the file of a bank,
-//! and reading that file gives the bank again, just powered on. The file of a bank that was read is
-//! the one that it was read from, byte by byte.
+//! of version 2, and reading that file gives the bank again, just powered on. A file that was read is
+//! the bank's file in its own version, byte by byte.
 //!
 //! `specs/Image.antt` has the format as the list of a file's fields, each with its place, its length
 //! and what its value is refused with, and the chip that a record stores. `specs/Written.antt` has
@@ -49,6 +54,7 @@ mod error;
 mod fields;
 mod header;
 mod loaded;
+mod locks;
 mod read;
 mod record;
 mod size;

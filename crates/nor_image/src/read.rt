@@ -1,33 +1,34 @@
 ghost use Rattle.std.specs.Prelude.{◌≡◌, ◌<◌, ◌≤◌, ℕ, IfOk, IfErr, None};
 ghost use Rattle.nor_cell.specs.Bits.{AreBytes};
 ghost use Rattle.nor_bus.specs.Bus.{IsBank, lane as lane_of_bus, lanes_of};
-ghost use Rattle.nor_image.specs.Image.{header_fields, first_refusal, image_refusal, device_of, lanes_of_file, IsImageOf, IsCause};
+ghost use Rattle.nor_image.specs.Image.{header_fields, first_refusal, image_refusal, version_of, device_of, lanes_of_file, IsImageOf, IsCause};
 ghost use Rattle.nor_image.specs.Loaded.{bus_of, loaded_width, IsFreshBus};
 ghost use Rattle.nor_image.specs.Reading.{MayRead, AreLanes, chips_of};
-ghost use Rattle.nor_image.specs.Written.{file_of, AreStorable};
+ghost use Rattle.nor_image.specs.Written.{file_in, AreStorable, AgreeOnLocks};
 
-use crate::header::read_header;
-use crate::record::{FIRST_RECORD, FIXED_PART, read_record};
+use crate::header::{Header, read_header};
+use crate::record::{FIRST_RECORD, machine_of, read_record, record_len};
 use crate::{ImageError, Loaded};
 use nor_amd::Amd;
 use nor_bus::SimBank;
-use nor_cell::{Cells, Device, Geometry, NoMemory, Set, set_of};
+use nor_cell::{Cells, Device, NoMemory, Set, set_of};
 use nor_intel::Intel;
 use std::alloc::Global;
 
 // The records of all lanes, behind which the file ends.
-fn read_lanes(alloc: Global, file: &[u8], geometry: Geometry) -> Result<Vec<Cells>, ImageError>
+fn read_lanes(alloc: Global, file: &[u8], header: Header) -> Result<Vec<Cells>, ImageError>
     requires header { first_refusal file.now (header_fields file.now) ≡ None }
-    requires lanes { geometry.lanes ≡ lanes_of_file file.now }
-    requires few { geometry.lanes ≤ 4 }
-    requires device { geometry.device ≡ device_of file.now }
+    requires version { header.version ≡ version_of file.now }
+    requires lanes { header.geometry.lanes ≡ lanes_of_file file.now }
+    requires few { header.geometry.lanes ≤ 4 }
+    requires device { header.geometry.device ≡ device_of file.now }
     ensures { MayRead (image_refusal file.now) (λ lanes. AreLanes file.now lanes.items) result }
 {
-    let mut lanes = Vec::with_capacity(alloc, usize::from(geometry.lanes))?;
+    let mut lanes = Vec::with_capacity(alloc, usize::from(header.geometry.lanes))?;
     let mut at = FIRST_RECORD;
-    for lane in 0..geometry.lanes {
-        let cells = read_record(alloc, file, geometry.device, lane, at)?;
-        at += FIXED_PART + 4 * cells.weak.len() + cells.bytes.len();
+    for lane in 0..header.geometry.lanes {
+        let cells = read_record(alloc, file, header, lane, &lanes, at)?;
+        at += record_len(header.version, machine_of(file), &cells);
         lanes.push(cells)?;
     }
     if at < file.len() {
@@ -102,9 +103,9 @@ pub fn read_image(alloc: Global, file: &[u8]) -> Result<Loaded, ImageError>
     ensures fresh { IfOk result (λ loaded. IsFreshBus (bus_of loaded)) }
     ensures refused { IfErr result (IsCause file.now) }
 
-    // The file is that of the bank, byte by byte.
+    // The file is that of the bank in its version, byte by byte.
     ensures file { IfOk result (λ loaded.
-        file.now ≡ file_of (loaded_width loaded) (bus_of loaded).lanes) }
+        file.now ≡ file_in (version_of file.now) (loaded_width loaded) (bus_of loaded).lanes) }
 
     // What holds of each bank that was loaded.
     ensures wired { IfOk result (λ loaded.
@@ -112,9 +113,10 @@ pub fn read_image(alloc: Global, file: &[u8]) -> Result<Loaded, ImageError>
     ensures bytes { IfOk result (λ loaded. (c : ℕ) → c < lanes_of (bus_of loaded)
         → AreBytes (lane_of_bus (bus_of loaded) c).cells) }
     ensures storable { IfOk result (λ loaded. AreStorable (bus_of loaded).lanes) }
+    ensures agree { IfOk result (λ loaded. AgreeOnLocks (bus_of loaded).lanes) }
 {
     let header = read_header(file)?;
-    let lanes = read_lanes(alloc, file, header.geometry)?;
+    let lanes = read_lanes(alloc, file, header)?;
     let set = set_of(&lanes[0].table);
     let loaded = power_up(alloc, header.width, header.geometry.device, set, lanes)?;
     Ok(loaded)

@@ -2,15 +2,17 @@ ghost use Rattle.std.specs.Prelude.{◌≡◌, ◌<◌, ◌≤◌, ◌+◌, ◌^
 ghost use Rattle.nor_cell.specs.Bits.{AreBytes};
 ghost use Rattle.nor_cell.specs.Ranges.{is_chip_size, is_ascending_below, begin_units};
 ghost use Rattle.nor_io.specs.Fields.{u32_at};
-ghost use Rattle.nor_image.specs.Image.{any_field, bytes_at, is_size_by, weak_field, weak_field_at, least_weak, is_weak_place, number_fields, table_field, size_field, weak_fields, record_fields, refusal_of, first_refusal, device_of, table_in, size_in, weak_in, weak_count};
-ghost use Rattle.nor_image.specs.Reading.{Reads, MayRead, AreNumbers, AreStored};
+ghost use Rattle.nor_image.specs.Image.{any_field, bytes_at, is_size_by, weak_field, weak_field_at, least_weak, is_weak_place, number_fields, table_field, size_field, weak_fields, record_fields, refusal_of, first_refusal, version_of, device_of, machine_of, kept_before, table_in, size_in, weak_in, weak_count};
+ghost use Rattle.nor_image.specs.Reading.{Reads, MayRead, AreNumbers, AreStored, kept_of_each, record_len};
 
 use crate::ImageError;
 use crate::blocks::blocks_of_table;
 use crate::fields::{byte_up_to, bytes_field, check, u16_up_to, u32_field};
+use crate::header::{Header, Version};
+use crate::locks::{kept_locks, locks_len, read_locks, stored_count};
 use crate::size::is_size_by;
 use nor_bus::lane_bytes;
-use nor_cell::{CellParts, Cells, Device, make_cells};
+use nor_cell::{CellParts, Cells, Device, Set, make_cells, set_of};
 use nor_io::field_u32;
 use std::alloc::Global;
 
@@ -55,11 +57,22 @@ fn read_numbers(file: &[u8], at: usize) -> Result<Numbers, ImageError>
 
 fn read_table(file: &[u8], at: usize) -> Result<[u8; 512], ImageError>
     requires near { at ≤ 2 ^ 30 }
-    ensures { Reads (refusal_of file.now (table_field at)) (λ table. table ≡ table_in file.now at) result }
+    ensures read { Reads (refusal_of file.now (table_field at)) (λ table. table ≡ table_in file.now at) result }
+    ensures whole { IfOk result (λ _. at + 532 ≤ length file.now) }
 {
     let mut table = [0; 512];
     table.copy_from_slice(bytes_field(file, at + TABLE, 512)?);
     Ok(table)
+}
+
+/// The set of all chips, which lane 0's table names.
+pub fn machine_of(file: &[u8]) -> Set
+    requires { 544 ≤ length file.now }
+    ensures { result ≡ machine_of file.now }
+{
+    let mut table = [0; 512];
+    table.copy_from_slice(&file[FIRST_RECORD + TABLE..FIRST_RECORD + SIZE]);
+    set_of(&table)
 }
 
 // The size of a lane's chip, which is that of lane 0's chip.
@@ -148,26 +161,48 @@ fn read_cells(alloc: Global, file: &[u8], at: usize, size: u32) -> Result<Vec<u8
     Ok(bytes.to_vec(alloc)?)
 }
 
-/// The record of a lane, which begins at a place.
+/// How many bytes the record of a chip with these cells has.
+pub fn record_len(version: Version, set: Set, cells: &Cells) -> usize
+    ensures value { result ≡ record_len version set cells.now }
+    ensures few { result ≤ 536 + 1024 + 4 + 2 ^ 27 + 2 ^ 63 }
+{
+    let locks = kept_locks(set, cells).len();
+    FIXED_PART + 4 * cells.weak.len() + locks_len(version, locks) + cells.bytes.len()
+}
+
+/// The record of a lane, which begins at a place, behind those of the lanes before.
 pub fn read_record(
     alloc: Global,
     file: &[u8],
-    device: Device,
+    header: Header,
     lane: u8,
+    before: &[Cells],
     at: usize,
 ) -> Result<Cells, ImageError>
     requires near { at ≤ 2 ^ 30 }
     requires behind_header { 12 ≤ at }
-    requires device { device ≡ device_of file.now }
-    ensures { MayRead (first_refusal file.now (record_fields file.now lane at)) (AreStored file.now device at) result }
+    requires version { header.version ≡ version_of file.now }
+    requires device { header.geometry.device ≡ device_of file.now }
+    requires before { kept_of_each (machine_of file.now) before.now ≡ kept_before file.now lane }
+    ensures { MayRead (first_refusal file.now (record_fields file.now lane at))
+        (AreStored file.now header.geometry.device at) result }
 {
+    let Header {
+        version,
+        geometry,
+        ..
+    } = header;
+    let device = geometry.device;
     let numbers = read_numbers(file, at)?;
     let table = read_table(file, at)?;
     let size = read_size(file, lane, at, &table)?;
     let weak = read_weak(alloc, file, device, at, numbers.weak_count, size)?;
-    let cells_at = at + FIXED_PART + 4 * usize::from(numbers.weak_count);
-    let bytes = read_cells(alloc, file, cells_at, size)?;
     let blocks = blocks_of_table(alloc, &table, size)?;
+    let set = machine_of(file);
+    let count = stored_count(version, set, &table, blocks.len());
+    let locks_at = at + FIXED_PART + 4 * usize::from(numbers.weak_count);
+    let locks = read_locks(alloc, file, version, locks_at, before, set, count)?;
+    let bytes = read_cells(alloc, file, locks_at + locks_len(version, count), size)?;
     let parts = CellParts {
         device,
         table,
@@ -180,6 +215,7 @@ pub fn read_record(
         suspends: numbers.suspends,
         erases: numbers.erases,
         blocks,
+        locks,
     };
     Ok(make_cells(alloc, parts)?)
 }

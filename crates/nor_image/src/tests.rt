@@ -1,3 +1,6 @@
+//! Files that are refused, and banks that are written and read again.
+mod locks;
+
 use super::*;
 use nor_bus::Bus;
 use nor_cell::Chip;
@@ -138,6 +141,7 @@ fn a_file_that_is_no_banks_is_refused_at_its_place(rt: HostRuntime) -> Result<()
     let rows = [
         (b"".to_vec(rt.alloc())?, short(0)),
         (b"NORBANK1".to_vec(rt.alloc())?, short(8)),
+        (b"NORBANK2".to_vec(rt.alloc())?, short(8)),
         (b"no!".to_vec(rt.alloc())?, short(3)),
         (shorter, short(8739)),
         (longer, Some(ImageError::Trailing { at: 8740 })),
@@ -169,7 +173,9 @@ fn a_field_that_has_a_bad_value_is_refused(rt: HostRuntime) -> Result<(), Fail> 
         rt.alloc(),
         &one,
         &[
-            (7, 0x32, Some(ImageError::BadMagic)),
+            (7, 0x33, Some(ImageError::BadMagic)),
+            // as of version 2, the first cells aren't the number of its locks
+            (7, 0x32, bad(548)),
             (8, 0, bad(8)),
             (8, 1, bad(10)),
             (8, 0x10, bad(8)),
@@ -254,30 +260,38 @@ fn load(alloc: Global, file: &[u8]) -> Result<(Loaded, usize), ImageError> {
 }
 
 #[test]
-fn a_loaded_bank_is_written_as_it_was_read(rt: HostRuntime) -> Result<(), Fail> {
+fn a_loaded_bank_is_written_as_version_2(rt: HostRuntime) -> Result<(), Fail> {
     let weak = Lane {
         log: 13,
         weak: &[4, 8190],
         falls: true,
     };
     let lanes = [RISES, weak, FALLS, RISES];
-    // the width, the device, the lanes, the set, and the kind of the bank
-    for (width, device, count, set, kind) in [
-        (1, 0, 1, 1, 0),
-        (2, 1, 1, 1, 1),
-        (4, 1, 2, 1, 2),
-        (8, 1, 4, 1, 3),
-        (1, 2, 1, 2, 4),
-        (2, 0, 2, 2, 5),
-        (4, 0, 4, 2, 6),
-        (8, 1, 4, 2, 7),
+    // the width, the device, the lanes, the set, the kind of the bank, and how many bytes version 2 has
+    // more: each record has the number of its locks. In a bank of set 0002 lane 0's table offers none,
+    // and the others', which still name set 0001, offer eight.
+    for (width, device, count, set, kind, more) in [
+        (1, 0, 1, 1, 0, 4),
+        (2, 1, 1, 1, 1, 4),
+        (4, 1, 2, 1, 2, 8),
+        (8, 1, 4, 1, 3, 16),
+        (1, 2, 1, 2, 4, 4),
+        (2, 0, 2, 2, 5, 16),
+        (4, 0, 4, 2, 6, 40),
+        (8, 1, 4, 2, 7, 40),
     ] {
-        let file = bank_file(rt.alloc(), width, device, &lanes[..count])?;
+        let file = bank_file(rt.alloc(), width, device, lanes.get(..count).unwrap_or(&[]))?;
         let file = edited(rt.alloc(), &file, 51, set)?;
         let (bank, found) = load(rt.alloc(), &file)?;
         assert_eq!(rt; found, kind);
+        let saved = write_image(rt.alloc(), &bank)?;
+        assert_eq!(rt; saved.len().wrapping_sub(file.len()), more);
+        assert!(rt; saved.starts_with(b"NORBANK2"));
+        assert!(rt; saved.get(8..540) == file.get(8..540));
+        let (bank, found) = load(rt.alloc(), &saved)?;
+        assert_eq!(rt; found, kind);
         let again = write_image(rt.alloc(), &bank)?;
-        assert!(rt; again.as_slice() == file.as_slice(), "kind {kind}");
+        assert!(rt; again.as_slice() == saved.as_slice(), "kind {kind}");
     }
     Ok(())
 }
@@ -293,7 +307,10 @@ fn what_a_chip_counts_is_written(rt: HostRuntime) -> Result<(), Fail> {
         }
         let bank = Loaded::Intel16(bank);
         let written = write_image(rt.alloc(), &bank)?;
-        assert!(rt; written.as_slice() == edited(rt.alloc(), &file, 28, 1)?.as_slice());
+        let counted = edited(rt.alloc(), &file, 28, 1)?;
+        assert!(rt; written.get(8..548) == counted.get(8..548));
+        assert_eq!(rt; written.get(548..552), Some([0; 4].as_slice()));
+        assert!(rt; written.get(552..) == file.get(548..));
         let mut filled = written.clone()?;
         filled.fill(0);
         fill_image(&bank, &mut filled);

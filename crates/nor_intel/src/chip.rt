@@ -4,7 +4,7 @@ ghost use Rattle.nor_cell.specs.Bits.{unit_len};
 ghost use Rattle.nor_cell.specs.Cells.{chip_of};
 ghost use Rattle.nor_cell.specs.Chip.{units};
 ghost use Rattle.nor_cell.specs.Look.{look};
-ghost use Rattle.nor_cell.specs.Power.{Cuts, powered};
+ghost use Rattle.nor_cell.specs.Power.{powered};
 ghost use Rattle.nor_cell.specs.Simulated.{LeavesBroken, CutsBy};
 ghost use Rattle.nor_cell.specs.Steps.{Reads, Keeps};
 
@@ -32,7 +32,8 @@ impl Model for Intel {
 }
 
 impl Intel {
-    /// A chip with these cells, as after power-on. It takes no memory.
+    /// A chip with these cells, as after power-on, which sets all locks where the table offers them.
+    /// It takes no memory.
     pub fn new(cells: Cells) -> Intel
         ensures { result ≡ powered (chip_of Set.Intel cells) }
     {
@@ -44,6 +45,8 @@ impl Intel {
 
 impl Chip for Intel {
     ghost state = { λ chip. chip };
+
+    ghost leaves = { CutsBy };
 
     fn read(&mut self, at: u32) -> u16
         requires { at < units self.old }
@@ -65,12 +68,7 @@ impl Chip for Intel {
         }
     }
 
-    fn cut(&mut self, mask: u8)
-        ensures step { Cuts self.old self.new }
-        ensures kept { Keeps self.old self.new }
-        // What is left of work under way.
-        ensures left { CutsBy mask self.old self.new }
-    {
+    fn cut(&mut self, mask: u8) {
         self.machine.cut(mask);
     }
 

@@ -8,7 +8,7 @@
 //!   each other in one page and block.
 //! - `0x20`, and then `0xD0` in a block, erases it. While an erase runs `0xB0` suspends it, and
 //!   `0xD0` lets it go on.
-//! - `0x60`, and then `0x01` or `0xD0` in a block, locks or unlocks it.
+//! - `0x60`, and then `0x01` or `0xD0` in a block, locks or unlocks it. Power-on locks all blocks.
 //!
 //! The status register: bit 7 ready, 6 an erase is suspended, 5 erase error, 4 program error, 1 the
 //! block was locked. Bits 5 and 4 together are a command sequence error.

@@ -110,6 +110,7 @@ fn make_chip(rt: &impl Abort, alloc: Global, setup: Setup) -> Result<Intel, Fail
             suspends: setup.counted,
             erases: setup.counted,
             blocks: blocks(alloc, setup.has_blocks)?,
+            locks: Vec::new(alloc),
         },
     )?;
     Ok(Intel::new(cells))

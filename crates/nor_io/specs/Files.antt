@@ -5,6 +5,16 @@ use Rattle.std.specs.Prelude.{◌≡◌, ◌≢◌, ◌≤◌, ◌<◌, ◌+◌,
 abbrev pub FileMap : Type 0
 FileMap = List ℕ → Option (List ℕ)
 
+-- its files, where the shelf tells them, and how often it has failed
+pub record ShelfState : Type 0 where
+  pub files : Option FileMap
+  pub faults : ℕ
+
+-- the bytes that a sink has taken, where it tells them, and how often it has failed
+pub record SinkState : Type 0 where
+  pub taken : Option (List ℕ)
+  pub faults : ℕ
+
 -- a count has risen, or stands at its last value
 abbrev pub Rose : ℕ → ℕ → Type 0
 Rose before now = min (before + 1) (2 ^ 64 - 1) ≤ now

@@ -34,9 +34,7 @@ impl<'a, R: Files + AllocGlobal> FsShelf<'a, R> {
 }
 
 impl<'a, R: Files + AllocGlobal> Shelf for FsShelf<'a, R> {
-    ghost files = { λ _. None };
-
-    ghost faults = { λ shelf. shelf };
+    ghost state = { λ count. record { files = None; faults = count } };
 
     fn faults(&self) -> u64 {
         self.faults

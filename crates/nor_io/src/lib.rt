@@ -1,5 +1,5 @@
-//! What norbank reads and writes outside of its chips: a shelf of named files, a sink for text, and
-//! the little-endian fields of a file.
+//! What norbank reads and writes outside of its chips: a shelf of named files, a sink for text and for
+//! bytes as hex text, and the little-endian fields of a file.
 //!
 //! A [`Shelf`] may tell its files, and a [`Sink`] the bytes that it has taken; each counts its
 //! faults. Their contracts then say exactly what a call reads or changes, and that a fault is
@@ -8,12 +8,13 @@
 //! over standard output: they keep the same contracts, but what lies outside of the process isn't
 //! told, so of its content nothing is claimed.
 //!
-//! It stands on `byteorder` for the fields, and on std.
+//! It stands on `byteorder` for the fields, on `hex` for hex text, and on std.
 #![tactic(auto)]
 
 mod calls;
 mod fields;
 mod fs_shelf;
+mod hex_text;
 mod mem_shelf;
 mod mem_sink;
 mod shelf;
@@ -22,6 +23,7 @@ mod std_sink;
 
 pub use fields::{field_u16, field_u32};
 pub use fs_shelf::FsShelf;
+pub use hex_text::put_hex;
 pub use mem_shelf::MemShelf;
 pub use mem_sink::MemSink;
 pub use shelf::{LoadError, MAX_FILE, NoMemory, SaveError, Shelf};

@@ -1,7 +1,7 @@
 ghost use Rattle.std.specs.Prelude.{◌≡◌, ◌≤◌, ◌^◌, ◌↔◌, ℕ, List, None, Some, IfOk, OnOk, OnErr, IsErrOf, vec_len};
 ghost use Rattle.nor_io.specs.Files.{Rose, HasFile, IsAbsent, IsTooLarge, Puts, Saves};
 ghost use Rattle.nor_io.specs.Calls.{IsFresh, IsDue, CountsCall};
-ghost use Rattle.nor_io.specs.Memory.{files_of, shelf_calls};
+ghost use Rattle.nor_io.specs.Memory.{files_of, shelf_calls, shelf_state};
 
 use crate::calls::Calls;
 use crate::{LoadError, MAX_FILE, NoMemory, SaveError, Shelf};
@@ -44,9 +44,7 @@ impl MemShelf {
 }
 
 impl Shelf for MemShelf {
-    ghost files = { λ s. Some (files_of s) };
-
-    ghost faults = { λ s. (shelf_calls s).faults };
+    ghost state = { shelf_state };
 
     fn faults(&self) -> u64 {
         self.calls.faults()
@@ -54,13 +52,16 @@ impl Shelf for MemShelf {
 
     /// The trait's contract. Moreover `ReadFault` comes exactly at the calls that are to fail.
     fn load(&mut self, alloc: Global, name: &str) -> Result<Vec<u8>, LoadError>
-        ensures found { IfOk result (λ v. HasFile (Some (files_of self.old)) name.now v.items) }
+        ensures found { IfOk result (λ v. HasFile (shelf_state self.old).files name.now v.items) }
         ensures small { IfOk result (λ v. vec_len v ≤ 2 ^ 30) }
-        ensures absent { IsErrOf result LoadError.Absent → IsAbsent (Some (files_of self.old)) name.now }
-        ensures too_large { IsErrOf result LoadError.TooLarge → IsTooLarge (Some (files_of self.old)) name.now }
-        ensures fault { IsErrOf result LoadError.ReadFault → Rose (shelf_calls self.old).faults (shelf_calls self.new).faults }
-        ensures later { (shelf_calls self.old).faults ≤ (shelf_calls self.new).faults }
-        ensures same { Some (files_of self.new) ≡ Some (files_of self.old) }
+        ensures absent { IsErrOf result LoadError.Absent
+            → IsAbsent (shelf_state self.old).files name.now }
+        ensures too_large { IsErrOf result LoadError.TooLarge
+            → IsTooLarge (shelf_state self.old).files name.now }
+        ensures fault { IsErrOf result LoadError.ReadFault
+            → Rose (shelf_state self.old).faults (shelf_state self.new).faults }
+        ensures later { (shelf_state self.old).faults ≤ (shelf_state self.new).faults }
+        ensures same { (shelf_state self.new).files ≡ (shelf_state self.old).files }
         ensures due { IsErrOf result LoadError.ReadFault ↔ IsDue (shelf_calls self.old) }
         ensures counted { CountsCall (shelf_calls self.old) (shelf_calls self.new) }
     {
@@ -78,10 +79,11 @@ impl Shelf for MemShelf {
 
     /// The trait's contract. Moreover `WriteFault` comes exactly at the calls that are to fail.
     fn save(&mut self, name: &str, bytes: &[u8]) -> Result<(), SaveError>
-        ensures ok { OnOk result (Saves (Some (files_of self.old)) name.now bytes.now (Some (files_of self.new))) }
-        ensures err { OnErr result (Some (files_of self.new) ≡ Some (files_of self.old)) }
-        ensures fault { IsErrOf result SaveError.WriteFault → Rose (shelf_calls self.old).faults (shelf_calls self.new).faults }
-        ensures later { (shelf_calls self.old).faults ≤ (shelf_calls self.new).faults }
+        ensures ok { OnOk result (Saves (shelf_state self.old).files name.now bytes.now (shelf_state self.new).files) }
+        ensures err { OnErr result ((shelf_state self.new).files ≡ (shelf_state self.old).files) }
+        ensures fault { IsErrOf result SaveError.WriteFault
+            → Rose (shelf_state self.old).faults (shelf_state self.new).faults }
+        ensures later { (shelf_state self.old).faults ≤ (shelf_state self.new).faults }
         ensures due { IsErrOf result SaveError.WriteFault ↔ IsDue (shelf_calls self.old) }
         ensures counted { CountsCall (shelf_calls self.old) (shelf_calls self.new) }
     {

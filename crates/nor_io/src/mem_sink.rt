@@ -1,7 +1,7 @@
-ghost use Rattle.std.specs.Prelude.{◌≡◌, ◌≤◌, ◌↔◌, Some, [], IfOk, OnOk, IsErrOf};
-ghost use Rattle.nor_io.specs.Files.{Rose, Appends, AppendsPart};
+ghost use Rattle.std.specs.Prelude.{◌≡◌, ◌≤◌, ◌↔◌, [], IfOk, IsErrOf};
+ghost use Rattle.nor_io.specs.Puts.{PutsText};
 ghost use Rattle.nor_io.specs.Calls.{IsFresh, IsDue, CountsCall};
-ghost use Rattle.nor_io.specs.Memory.{bytes_of, sink_calls};
+ghost use Rattle.nor_io.specs.Memory.{bytes_of, sink_calls, sink_state};
 
 use crate::calls::Calls;
 use crate::{NoMemory, Sink, SinkError};
@@ -37,9 +37,7 @@ impl MemSink {
 }
 
 impl Sink for MemSink {
-    ghost taken = { λ s. Some (bytes_of s) };
-
-    ghost faults = { λ s. (sink_calls s).faults };
+    ghost state = { sink_state };
 
     fn faults(&self) -> u64 {
         self.calls.faults()
@@ -47,11 +45,10 @@ impl Sink for MemSink {
 
     /// The trait's contract. Moreover `Fault` comes exactly at the calls that are to fail.
     fn put(&mut self, bytes: &[u8]) -> Result<(), SinkError>
-        ensures ok { OnOk result (Appends (Some (bytes_of self.old)) bytes.now (Some (bytes_of self.new))) }
-        ensures part { IsErrOf result SinkError.Fault → AppendsPart (Some (bytes_of self.old)) bytes.now (Some (bytes_of self.new)) }
-        ensures same { IsErrOf result SinkError.NoMemory → Some (bytes_of self.new) ≡ Some (bytes_of self.old) }
-        ensures fault { IsErrOf result SinkError.Fault → Rose (sink_calls self.old).faults (sink_calls self.new).faults }
-        ensures later { (sink_calls self.old).faults ≤ (sink_calls self.new).faults }
+        ensures puts { PutsText bytes.now (sink_state self.old) (sink_state self.new) result }
+        ensures same { IsErrOf result SinkError.NoMemory
+            → (sink_state self.new).taken ≡ (sink_state self.old).taken }
+        ensures later { (sink_state self.old).faults ≤ (sink_state self.new).faults }
         ensures due { IsErrOf result SinkError.Fault ↔ IsDue (sink_calls self.old) }
         ensures counted { CountsCall (sink_calls self.old) (sink_calls self.new) }
     {

@@ -1,5 +1,5 @@
-ghost use Rattle.std.specs.Prelude.{◌≡◌, ◌≤◌, ◌^◌, ℕ, Option, OnOk, OnErr, IfOk, IsErrOf, vec_len};
-ghost use Rattle.nor_io.specs.Files.{FileMap, Rose, HasFile, IsAbsent, IsTooLarge, Saves};
+ghost use Rattle.std.specs.Prelude.{◌≡◌, ◌≤◌, ◌^◌, OnOk, OnErr, IfOk, IsErrOf, vec_len};
+ghost use Rattle.nor_io.specs.Files.{ShelfState, Rose, HasFile, IsAbsent, IsTooLarge, Saves};
 ghost use Rattle.nor_io.specs.declared.shelf.LoadError.{LoadError};
 ghost use Rattle.nor_io.specs.declared.shelf.SaveError.{SaveError};
 
@@ -51,16 +51,13 @@ impl From<AllocError> for SaveError {
 
 /// Files by their names.
 pub trait Shelf {
-    /// The bytes under each name, where the shelf tells them.
-    ghost files: { Self → Option FileMap };
-
-    /// How often a load or a save has failed, for another reason than a missing or too large file
-    /// or want of memory.
-    ghost faults: { Self → ℕ };
+    /// The bytes under each name, where the shelf tells them, and how often a load or a save has
+    /// failed, for another reason than a missing or too large file or want of memory.
+    ghost state: { Self → ShelfState };
 
     /// The count of faults. It never falls, and stays at its last value.
     fn faults(&self) -> u64
-        ensures { result ≡ faults self.now };
+        ensures { result ≡ (state self.now).faults };
 
     /// The bytes under the name, at most [`MAX_FILE`] of them. No file changes.
     ///
@@ -68,21 +65,25 @@ pub trait Shelf {
     /// more than `MAX_FILE` bytes (and such a file never comes as `Ok`), and `ReadFault` only where
     /// the count of faults rose, or stands at its last value.
     fn load(&mut self, alloc: Global, name: &str) -> Result<Vec<u8>, LoadError>
-        ensures found { IfOk result (λ v. HasFile (files self.old) name.now v.items) }
+        ensures found { IfOk result (λ v. HasFile (state self.old).files name.now v.items) }
         ensures small { IfOk result (λ v. vec_len v ≤ 2 ^ 30) }
-        ensures absent { IsErrOf result LoadError.Absent → IsAbsent (files self.old) name.now }
-        ensures too_large { IsErrOf result LoadError.TooLarge → IsTooLarge (files self.old) name.now }
-        ensures fault { IsErrOf result LoadError.ReadFault → Rose (faults self.old) (faults self.new) }
-        ensures later { faults self.old ≤ faults self.new }
-        ensures same { files self.new ≡ files self.old };
+        ensures absent { IsErrOf result LoadError.Absent
+            → IsAbsent (state self.old).files name.now }
+        ensures too_large { IsErrOf result LoadError.TooLarge
+            → IsTooLarge (state self.old).files name.now }
+        ensures fault { IsErrOf result LoadError.ReadFault
+            → Rose (state self.old).faults (state self.new).faults }
+        ensures later { (state self.old).faults ≤ (state self.new).faults }
+        ensures same { (state self.new).files ≡ (state self.old).files };
 
     /// Puts the bytes under the name. Every other name keeps what it has.
     ///
     /// `WriteFault` comes only where the count of faults rose, or stands at its last value. After an
     /// error a told shelf is as it was.
     fn save(&mut self, name: &str, bytes: &[u8]) -> Result<(), SaveError>
-        ensures ok { OnOk result (Saves (files self.old) name.now bytes.now (files self.new)) }
-        ensures err { OnErr result (files self.new ≡ files self.old) }
-        ensures fault { IsErrOf result SaveError.WriteFault → Rose (faults self.old) (faults self.new) }
-        ensures later { faults self.old ≤ faults self.new };
+        ensures ok { OnOk result (Saves (state self.old).files name.now bytes.now (state self.new).files) }
+        ensures err { OnErr result ((state self.new).files ≡ (state self.old).files) }
+        ensures fault { IsErrOf result SaveError.WriteFault
+            → Rose (state self.old).faults (state self.new).faults }
+        ensures later { (state self.old).faults ≤ (state self.new).faults };
 }

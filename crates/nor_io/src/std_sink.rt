@@ -31,9 +31,7 @@ impl<W: Write + Drop> StdSink<W> {
 }
 
 impl<W: Write + Drop> Sink for StdSink<W> {
-    ghost taken = { λ _. None };
-
-    ghost faults = { λ sink. sink };
+    ghost state = { λ count. record { taken = None; faults = count } };
 
     fn faults(&self) -> u64 {
         self.faults

@@ -4,7 +4,8 @@ use Rattle.nor_cell.specs.Bits.{IsBetween}
 use Rattle.nor_cell.specs.Chip.{ChipState, Flags, Mode, Step, Job, Idle}
 use Rattle.nor_cell.specs.Look.{break_of, Programmed}
 use Rattle.nor_cell.specs.Power.{is_erasing_at, programs_at}
-use Rattle.nor_poll.specs.Losing.{Darkens, IsUnmoved, TornBy, Loses}
+use Rattle.nor_bus.specs.Driven.{Darkens}
+use Rattle.nor_poll.specs.Losing.{IsUnmoved, TornBy, Loses}
 use Rattle.nor_poll.proofs.Between.{kept_between, byte_between}
 
 -- nothing was programmed

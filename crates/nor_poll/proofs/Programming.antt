@@ -7,7 +7,8 @@ use Rattle.nor_cell.specs.Look.{look, look_at, Works, EndsProgram, Rests, broken
 use Rattle.nor_cell.specs.Power.{Cuts, is_erasing_at, erases_at, holds_at}
 use Rattle.nor_cell.specs.declared.device.Set.{Set}
 use Rattle.nor_cell.specs.declared.device.Set.TheVariants.{Intel, Amd}
-use Rattle.nor_poll.specs.Losing.{Darkens, IsUnmoved, TornBy, Tears, Loses}
+use Rattle.nor_bus.specs.Driven.{Darkens}
+use Rattle.nor_poll.specs.Losing.{IsUnmoved, TornBy, Tears, Loses}
 use Rattle.nor_poll.specs.Reads.{AfterReads, NoReads, OneMore}
 use Rattle.nor_poll.specs.Rest.{cleared_flags, no_flags}
 use Rattle.nor_poll.specs.Told.{IsLooked, HasLeft, seen, seen_fault, seen_idle}

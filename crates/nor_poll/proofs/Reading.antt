@@ -3,10 +3,9 @@ use Rattle.std.proofs.Common.{◌≡◌, ◌≢◌, ◌+◌, ◌<◌, ◌≤◌,
 use Rattle.nor_cell.specs.Chip.{ChipState, Job, Idle, Program, Erase, Pausing, Flags, runs, is_held}
 use Rattle.nor_bus.specs.Bus.{BusState, chip_at, lane, lanes_of}
 use Rattle.nor_bus.specs.Cycles.{BusFails}
-use Rattle.nor_bus.specs.Driven.{Went, Lost, EachLane}
+use Rattle.nor_bus.specs.Driven.{Went, Lost, EachLane, Darkens}
 use Rattle.nor_bus.proofs.Driving.{went_then, lost_then}
 use Rattle.nor_poll.specs.Told.{IsLooked, ShowsStatus, Told, seen}
-use Rattle.nor_poll.specs.Losing.{Darkens}
 use Rattle.nor_poll.specs.Reads.{AfterReads, NoReads, OneMore, ReadBy, DarkensReading}
 use Rattle.nor_poll.specs.declared.watch.Seen.{Seen}
 use Rattle.nor_poll.specs.declared.watch.Seen.TheVariants.{Working}

@@ -1,7 +1,7 @@
 -- Polls of all lanes, one after another.
 use Rattle.std.proofs.Common.{◌≡◌, ◌≢◌, ◌+◌, ◌-◌, ◌*◌, ◌<◌, ◌≤◌, ◌⊎◌, inl, inr, ℕ, zero, suc, refl, sym, ap, subst, ◌∙◌, arith, List, true}
 use Rattle.std.proofs.lemmas.Bool.{cases_lt}
-use Rattle.nor_cell.specs.Chip.{ChipState, Part}
+use Rattle.nor_cell.specs.Chip.{ChipState, Part, Idle}
 use Rattle.nor_cell.specs.Bits.{unit_len}
 use Rattle.nor_cell.specs.Wiring.{is_wiring}
 use Rattle.nor_cell.specs.declared.device.Device.{Device}
@@ -76,6 +76,13 @@ worked_more bytes how u k j f old mid after read told below working = record {
   );
 }
 
+-- the lanes below the lowest that it told to work run no job
+pub lower_rest : {W : Type 0} (bytes : W → List ℕ) (how : Polling W) (u l m k : ℕ) (f : ℕ → Seen) (old mid after : BusState) → ReadBy l m old mid → ToldLanes bytes how u f mid after → k < lanes_of old
+    → ((c : ℕ) → c < k → f c ≢ Working) → (c : ℕ) → c < k → Answers bytes how u c (lane old c) → (lane after c).job ≡ Idle
+lower_rest bytes how u l m k f old mid after read told there none c lower answers =
+    let below : c < lanes_of old = omega (arith, lower, there) in
+    (told c (moved old mid c read.went.kept.count below) (answers_after bytes how u c (lane old c) read.reads (lane mid c) (read.each c below) answers)).idle (none c lower)
+
 -- no poll yet
 pub no_polls : (r : ℕ) (old : BusState) → ReadBy (r * 0) (r * 0) old old
 no_polls r old = record { reads = 0; enough = omega arith; few = omega arith; went = went_none old; each = λ c below. NoReads }
@@ -111,7 +118,7 @@ prompt_by Toggle n most (inr h) = omega arith
 prompt_by (Data datum) n most (inl h) = omega arith
 prompt_by (Data datum) n most (inr h) = omega arith
 
-late_by : {W : Type 0} (how : Polling W) (n most : ℕ) → n < most → n + (working_reads how + 1) ≤ wait_prompt how most
+late_by : {W : Type 0} (how : Polling W) (n most : ℕ) → n < most → n + most_reads how ≤ wait_prompt how most
 late_by Status n most h = omega arith
 late_by Toggle n most h = omega arith
 late_by (Data datum) n most h = omega arith
@@ -142,7 +149,7 @@ prompt_last how n most old mid after read before (inl last) short =
     let fits = prompt_by how n most before in read_then n n 1 (working_reads how) 1 (wait_prompt how most) old mid after (omega arith) fits read last
 prompt_last how n most old mid after read before (inr late) short =
     let few = some_left n n old mid read late.1 most short in
-    read_then n n 1 (working_reads how + 1) 1 (wait_prompt how most) old mid after (omega arith) (late_by how n most few) read late.0
+    read_then n n 1 (most_reads how) 1 (wait_prompt how most) old mid after (omega arith) (late_by how n most few) read late.0
 
 pub prompt_wait : {W : Type 0} (bytes : W → List ℕ) (how : Polling W) (u k j most : ℕ) (old mid after : BusState) → ReadBy (working_reads how * k) (working_reads how * k) old mid
     → HasWorked bytes how u k j old → AllAnswer bytes how u old → AllLanes (WorksFor most) old → InTime how mid after → ReadBy 1 (wait_prompt how most) old after

@@ -10,24 +10,23 @@ use Rattle.nor_cell.specs.declared.device.Set.{Set}
 use Rattle.nor_cell.specs.declared.device.Set.TheVariants.{Intel, Amd}
 use Rattle.nor_cell.specs.declared.geometry.Geometry.{Geometry}
 use Rattle.nor_word.specs.Word.{lane_of}
-use Rattle.nor_bus.specs.Bus.{BusState, lane, lanes_of, units_of, wide}
-use Rattle.nor_bus.specs.Driven.{IsOwn, Went, AllLanes}
-use Rattle.nor_bus.proofs.Driving.{went_then, lost_then, own_kept}
-use Rattle.nor_poll.specs.Counted.{Counted}
-use Rattle.nor_poll.specs.Losing.{Darkens, Loses}
+use Rattle.nor_bus.specs.Bus.{BusState, lane, lanes_of, wide}
+use Rattle.nor_bus.specs.Driven.{Reaches, Went, AllLanes, Counted, Darkens, EachPart}
+use Rattle.nor_bus.proofs.Driving.{went_then, lost_then, reaches_kept}
+use Rattle.nor_poll.specs.Losing.{Loses}
 use Rattle.nor_poll.specs.Polled.{Answers, working_reads}
 use Rattle.nor_poll.specs.Reads.{AfterReads, WorksAfter, ReadBy, DarkensReading}
 use Rattle.nor_poll.specs.Rest.{AtRest, IsClear, SettlesUnbroken, LosesNone, settled, cleared_flags, cleared_fault, takes_reset}
 use Rattle.nor_poll.specs.Wait.{IsReady, WorksFor, WaitHalts, wait_most}
 use Rattle.nor_poll.specs.Word.{TakesProgram, TakesCommands, BeginsWord, ProgramsWord, LosesWord, TearsWord, TellsBroken, EndsWithin, IsStuckBy, WordHalts, is_broken, programming, work_mode, word_most, word_stuck}
-use Rattle.nor_poll.specs.Words.{EachPart, word_reads, breaks, Stores}
+use Rattle.nor_poll.specs.Words.{word_reads, breaks, Stores}
 use Rattle.nor_poll.specs.declared.lanes.Halt.{Halt}
 use Rattle.nor_poll.specs.declared.lanes.Halt.TheVariants.{Off, Stuck}
 use Rattle.nor_poll.specs.declared.watch.Seen.{Seen}
 use Rattle.nor_poll.specs.declared.watch.Seen.TheVariants.{Ready}
 use Rattle.nor_poll.specs.declared.polling.Polling.{Polling}
 use Rattle.nor_poll.specs.declared.polling.Polling.TheVariants.{Status, Toggle, Data}
-use Rattle.nor_poll.proofs.Counting.{counted_exactly, counted_then}
+use Rattle.nor_bus.proofs.Counting.{counted_exactly, counted_then}
 use Rattle.nor_poll.proofs.Losing.{holds_stored, dark_idle, torn_none, loses_torn}
 use Rattle.nor_poll.proofs.Reading.{moved}
 use Rattle.nor_poll.proofs.Programming.{Programs, HasStored, programs_after, stored, toggling, break_job, stored_idle, works_still, tells_broken, tears, dark_programs, loses_later}
@@ -205,26 +204,25 @@ went_by n a b h = let e : h.reads ≡ n = let p = h.enough in let q = h.few in o
 
 pub word_halts : {W : Type 0} (bytes : W → List ℕ) (how : Polling W) (kind : Set) (width u limit first : ℕ) (g : Geometry) (word : List ℕ) (old mid after : BusState) (halt : Halt)
     → first + wait_most how limit ≤ word_most kind limit → first + working_reads how * limit ≡ word_stuck kind limit → Went first first old mid
-    → (IsOwn width g old → u < units_of old → EachPart word (BeginsWord kind u) old mid)
-    → (IsOwn width g old → u < units_of old → (c : ℕ) → c < lanes_of old → TakesProgram kind u (lane old c) → Answers bytes how u c (lane mid c))
-    → units_of mid ≡ units_of old
+    → (Reaches width g u old → EachPart word (BeginsWord kind u) old mid)
+    → (Reaches width g u old → (c : ℕ) → c < lanes_of old → TakesProgram kind u (lane old c) → Answers bytes how u c (lane mid c))
     → WaitHalts width bytes g how u limit mid after halt → WordHalts kind width g u word limit old after halt
-word_halts bytes how kind width u limit first g word old mid after Off fits same went begins answers units h = (
+word_halts bytes how kind width u limit first g word old mid after Off fits same went begins answers h = (
   lost_then first first (wait_most how limit) (word_most kind limit) old mid after fits went h.0,
-  λ own within k below.
-      dark_word kind u (lane_of (wide (lane old k)) word k) (lane old k) (lane mid k) (lane after k) (begins own within k below) (h.1 k (moved old mid k went.kept.count below)),
+  λ reaches k below.
+      dark_word kind u (lane_of (wide (lane old k)) word k) (lane old k) (lane mid k) (lane after k) (begins reaches k below) (h.1 k (moved old mid k went.kept.count below)),
 )
-word_halts bytes how kind width u limit first g word old mid after (Stuck n) fits same went begins answers units h =
+word_halts bytes how kind width u limit first g word old mid after (Stuck n) fits same went begins answers h =
     let polls = working_reads how * limit in
     let reads = h.1 in (
       h.0,
       went_then first first polls polls (word_stuck kind limit) (word_stuck kind limit) old mid after (omega (arith, same)) (omega (arith, same)) went (went_by polls mid after reads),
-      λ own within k below.
-          tears_word kind u (lane_of (wide (lane old k)) word k) reads.reads (lane old k) (lane mid k) (lane after k) (begins own within k below)
+      λ reaches k below.
+          tears_word kind u (lane_of (wide (lane old k)) word k) reads.reads (lane old k) (lane mid k) (lane after k) (begins reaches k below)
           (reads.each k (moved old mid k went.kept.count below)),
-      λ own within.
-          let below = subst (λ (m : ℕ). n < m) (sym own.count) h.0 in
-          stuck_word kind u (lane_of (wide (lane old n)) word n) (polls - working_reads how) limit (lane old n) (lane mid n) (begins own within n below) (enough_polls how limit)
-          (λ takes some.
-          h.2 (own_kept width g old mid went.kept own) (subst (λ (m : ℕ). u < m) (sym units) within) some (answers own within n below takes)),
+      λ reaches.
+          let now = reaches_kept width g u old mid went.kept reaches in
+          let below = subst (λ (m : ℕ). n < m) (sym reaches.own.count) h.0 in
+          stuck_word kind u (lane_of (wide (lane old n)) word n) (polls - working_reads how) limit (lane old n) (lane mid n) (begins reaches n below) (enough_polls how limit)
+          (λ takes some. h.2 now.own now.there some (answers reaches n below takes)),
     )

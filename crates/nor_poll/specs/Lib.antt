@@ -1,4 +1,4 @@
-pub mod Counted
+pub mod Codes
 pub mod Losing
 pub mod Polled
 pub mod Reads
@@ -7,5 +7,9 @@ pub mod Toggles
 pub mod Rest
 pub mod Told
 pub mod Wait
+pub mod UnderErase
+pub mod Erase
+pub mod Resume
+pub mod Suspend
 pub mod Word
 pub mod Words

@@ -1,12 +1,8 @@
 -- What a call that was given up leaves of a chip.
-use Rattle.std.specs.Prelude.{◌≡◌, ◌<◌, ◌≤◌, ◌+◌, ◌-◌, ◌⊎◌, ℕ, List, length, slice_index, true, false}
+use Rattle.std.specs.Prelude.{◌≡◌, ◌<◌, ◌≤◌, ◌+◌, ◌-◌, ℕ, List, length, slice_index, true, false}
 use Rattle.nor_cell.specs.Bits.{IsBetween, ChangesWithin}
 use Rattle.nor_cell.specs.Chip.{ChipState}
-use Rattle.nor_cell.specs.Power.{Cuts, is_erasing_at}
-
--- a cycle failed: the chip was cut, or had no power before
-abbrev pub Darkens : ChipState → ChipState → Type 0
-Darkens s t = (t ≡ s) ⊎ Cuts s t
+use Rattle.nor_cell.specs.Power.{is_erasing_at}
 
 -- The chip is the same, with its locks, its held erase and its counters, and no erase error came up.
 pub record IsUnmoved (s t : ChipState) : Type 0 where

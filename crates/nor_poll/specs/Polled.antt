@@ -1,6 +1,9 @@
 -- Polls of either set: what they ask of a chip, and how many reads they make.
-use Rattle.std.specs.Prelude.{◌+◌, ◌⊎◌, ℕ, List}
+use Rattle.std.specs.Prelude.{◌⊎◌, ◌==◌, ℕ, List, if◌then◌else◌}
 use Rattle.nor_cell.specs.Chip.{ChipState}
+use Rattle.nor_cell.specs.declared.device.Set.{Set}
+use Rattle.nor_cell.specs.declared.device.Set.TheVariants.{Intel, Amd}
+use Rattle.nor_cell.specs.declared.geometry.Geometry.{Geometry}
 use Rattle.nor_word.specs.Word.{lane_of}
 use Rattle.nor_bus.specs.Bus.{BusState, wide}
 use Rattle.nor_poll.specs.Told.{ShowsStatus}
@@ -25,8 +28,13 @@ working_reads (Data datum) = 2
 abbrev pub most_reads : {W : Type 0} → Polling W → ℕ
 most_reads Status = 1
 most_reads Toggle = 3
-most_reads (Data datum) = 3
+most_reads (Data datum) = 2
 
--- as many as one that tells a lane to work; or one more, where a job had reads left at the first
+-- as many as one that tells a lane to work; or the most, where a job had reads left at the first
 abbrev pub InTime : {W : Type 0} → Polling W → BusState → BusState → Type 0
-InTime how old new = ReadBy 1 (working_reads how) old new ⊎ (ReadBy 1 (working_reads how + 1) old new × SomeLeft old)
+InTime how old new = ReadBy 1 (working_reads how) old new ⊎ (ReadBy 1 (most_reads how) old new × SomeLeft old)
+
+-- Set 0001 is polled by its status; set 0002 by what toggles, but a program on a bank of one lane by its word.
+abbrev pub polling_for : {W : Type 0} → Set → Geometry → W → Polling W
+polling_for Intel g word = Status
+polling_for Amd g word = if g.lanes == 1 then Data word else Toggle

@@ -2,17 +2,13 @@
 use Rattle.std.specs.Prelude.{◌<◌, ◌≤◌, ◌⊎◌, ℕ, zero, suc}
 use Rattle.nor_cell.specs.Chip.{ChipState}
 use Rattle.nor_bus.specs.Bus.{BusState, lane, lanes_of}
-use Rattle.nor_bus.specs.Driven.{Went, EachLane}
+use Rattle.nor_bus.specs.Driven.{Went, EachLane, Darkens}
 use Rattle.nor_poll.specs.Told.{IsLooked, HasLeft}
-use Rattle.nor_poll.specs.Losing.{Darkens}
 
 -- the chip after n reads
 pub data AfterReads (s : ChipState) : ℕ → ChipState → Type 0 where
   NoReads : AfterReads s zero s
   OneMore : {n : ℕ} {m t : ChipState} → AfterReads s n m → IsLooked m t → AfterReads s (suc n) t
-
-abbrev pub ReadTimes : ℕ → ChipState → ChipState → Type 0
-ReadTimes n s t = AfterReads s n t
 
 -- after n reads the job has reads left, or the chip is stuck
 pub record WorksAfter (n : ℕ) (s : ChipState) : Type 0 where
@@ -36,7 +32,7 @@ pub record ReadBy (least most : ℕ) (old new : BusState) : Type 0 where
   pub enough : least ≤ reads
   pub few : reads ≤ most
   pub went : Went reads reads old new
-  pub each : EachLane (ReadTimes reads) old new
+  pub each : EachLane (λ s t. AfterReads s reads t) old new
 
 -- in some lane the job has reads left, or the chip is stuck
 pub record SomeLeft (bus : BusState) : Type 0 where

@@ -32,7 +32,7 @@ WorksFor most s = (n : ℕ) → WorksAfter n s → n < most
 abbrev pub wait_most : {W : Type 0} → Polling W → ℕ → ℕ
 wait_most Status limit = limit
 wait_most Toggle limit = 2 * limit + 1
-wait_most (Data datum) limit = 2 * limit + 1
+wait_most (Data datum) limit = 2 * limit
 
 -- and how many are made at most where no lane works for more than `most`
 abbrev pub wait_prompt : {W : Type 0} → Polling W → ℕ → ℕ
@@ -40,9 +40,10 @@ wait_prompt Status most = most + 1
 wait_prompt Toggle most = most + 3
 wait_prompt (Data datum) most = most + 3
 
--- The wait was given up: a cycle failed, or the last of the polls told lane k to work.
+-- The wait was given up: a cycle failed, or lane k is the lowest that the last of the polls told to work.
 abbrev pub WaitHalts : ℕ → {W : Type 0} (bytes : W → List ℕ) → Geometry → Polling W → ℕ → ℕ → BusState → BusState → Halt → Type 0
 WaitHalts width bytes g how u limit old new Off = Lost (wait_most how limit) old new × EachLane DarkensReading old new
 WaitHalts width bytes g how u limit old new (Stuck k) =
     (k < g.lanes) × ReadBy (working_reads how * limit) (working_reads how * limit) old new
     × (IsOwn width g old → u < units_of old → 0 < limit → Answers bytes how u k (lane old k) → WorksAfter (working_reads how * limit - working_reads how) (lane old k))
+    × (IsOwn width g old → u < units_of old → 0 < limit → (c : ℕ) → c < k → Answers bytes how u c (lane old c) → (lane new c).job ≡ Idle)

@@ -1,16 +1,18 @@
 -- Programming a word, by the calls of either set.
-use Rattle.std.specs.Prelude.{◌≡◌, ◌<◌, ◌≤◌, ◌+◌, ◌*◌, ℕ, List, Bool, true, false}
-use Rattle.nor_cell.specs.Bits.{unit_bytes}
+use Rattle.std.specs.Prelude.{◌≡◌, ◌<◌, ◌≤◌, ◌+◌, ◌*◌, min, ℕ, List, Bool, true, false}
+use Rattle.nor_cell.specs.Bits.{unit_bytes, has_bit}
 use Rattle.nor_cell.specs.Chip.{ChipState, Mode, Array, Status, Rest, NoFault, Program, has_blocks, block_of, is_locked, place}
 use Rattle.nor_cell.specs.Intel.{held_off, in_held}
 use Rattle.nor_cell.specs.declared.device.Set.{Set}
 use Rattle.nor_cell.specs.declared.device.Set.TheVariants.{Intel, Amd}
 use Rattle.nor_cell.specs.declared.geometry.Geometry.{Geometry}
-use Rattle.nor_bus.specs.Bus.{BusState, lane, units_of}
-use Rattle.nor_bus.specs.Driven.{IsOwn, Went, Lost}
+use Rattle.nor_word.specs.Word.{lane_of}
+use Rattle.nor_bus.specs.Bus.{BusState, lane, lanes_of, wide}
+use Rattle.nor_bus.specs.Driven.{Reaches, Went, Lost, AllLanes, Counted, EachPart}
 use Rattle.nor_poll.specs.Losing.{Tears, Loses}
 use Rattle.nor_poll.specs.Rest.{AtRest, settled, cleared_flags}
-use Rattle.nor_poll.specs.Words.{EachPart, word_reads, unit_breaks, StoresUnit, OnlyClears, HoldsUnit}
+use Rattle.nor_poll.specs.Words.{word_reads, unit_breaks, StoresUnit, OnlyClears, HoldsUnit}
+use Rattle.nor_poll.specs.declared.lanes.LaneSet.{LaneSet}
 use Rattle.nor_poll.specs.declared.lanes.Halt.{Halt}
 use Rattle.nor_poll.specs.declared.lanes.Halt.TheVariants.{Off, Stuck}
 use Rattle.nor_poll.specs.declared.watch.Seen.{Seen}
@@ -94,14 +96,26 @@ abbrev pub word_stuck : Set → ℕ → ℕ
 word_stuck Intel limit = limit + 3
 word_stuck Amd limit = 2 * limit + 4
 
+-- The set has the lanes that broke off, and no lane that isn't there.
+pub record AreBroken (set : Set) (width : ℕ) (g : Geometry) (u : ℕ) (word : List ℕ) (old : BusState) (broken : LaneSet) : Type 0 where
+  pub told : Reaches width g u old → (c : ℕ) → c < lanes_of old
+      → TellsBroken set u (has_bit broken.bits c) (lane_of (wide (lane old c)) word c) (lane old c)
+  pub past : (c : ℕ) → g.lanes ≤ c → has_bit broken.bits c ≡ false
+
+-- Where no lane works for more than `most` reads, there were few more cycles; one more where a lane broke off.
+abbrev pub IsPrompt : Set → ℕ → Geometry → ℕ → BusState → BusState → LaneSet → Type 0
+IsPrompt set width g u old new broken =
+    Reaches width g u old → (most : ℕ) → AllLanes (EndsWithin set u most) old
+    → Counted 5 (word_prompt set most + min broken.bits 1) old new
+
 -- The call was given up: a cycle failed, or lane k was told to work by `limit` polls.
 abbrev pub WordHalts : Set → ℕ → Geometry → ℕ → List ℕ → ℕ → BusState → BusState → Halt → Type 0
-WordHalts kind width g u word limit old new Off =
-    Lost (word_most kind limit) old new × (IsOwn width g old → u < units_of old → EachPart word (LosesWord kind u) old new)
-WordHalts kind width g u word limit old new (Stuck k) =
-    (k < g.lanes) × Went (word_stuck kind limit) (word_stuck kind limit) old new
-    × (IsOwn width g old → u < units_of old → EachPart word (TearsWord kind u) old new)
-    × (IsOwn width g old → u < units_of old → IsStuckBy kind u limit (lane old k))
+WordHalts set width g u word limit old new Off =
+    Lost (word_most set limit) old new × (Reaches width g u old → EachPart word (LosesWord set u) old new)
+WordHalts set width g u word limit old new (Stuck k) =
+    (k < g.lanes) × Went (word_stuck set limit) (word_stuck set limit) old new
+    × (Reaches width g u old → EachPart word (TearsWord set u) old new)
+    × (Reaches width g u old → IsStuckBy set u limit (lane old k))
 
 -- what is told of a lane that broke off
 abbrev pub is_broken : Seen → Bool

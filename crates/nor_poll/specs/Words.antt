@@ -5,12 +5,6 @@ use Rattle.nor_cell.specs.Chip.{ChipState, Part, place}
 use Rattle.nor_cell.specs.Look.{break_of, Programmed}
 use Rattle.nor_cell.specs.Table.{left_at_start}
 use Rattle.nor_cell.specs.declared.device.Work.TheVariants.{Word}
-use Rattle.nor_word.specs.Word.{lane_of}
-use Rattle.nor_bus.specs.Bus.{BusState, lane, lanes_of, wide}
-
--- each lane went from old to new as P says of its part of a word
-abbrev pub EachPart : List ℕ → (ℕ → ChipState → ChipState → Type 0) → BusState → BusState → Type 0
-EachPart word P old new = (c : ℕ) → c < lanes_of old → P (lane_of (wide (lane old c)) word c) (lane old c) (lane new c)
 
 -- how many reads a word shows working
 abbrev pub word_reads : ChipState → ℕ

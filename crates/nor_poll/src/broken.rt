@@ -18,7 +18,8 @@ fn bit_of(watch: &Watch, lane: usize, bit: u8) -> u8
 
 /// The lanes that a poll tells broken.
 pub fn broken_lanes(watch: &Watch) -> LaneSet
-    ensures lanes { (c : ℕ) → c < 4 → has_bit result.bits c ≡ is_broken (seen_at watch.now.lanes c) }
+    ensures lanes { (c : ℕ) → c < 4
+        → has_bit result.bits c ≡ is_broken (seen_at watch.now.lanes c) }
     ensures past { (c : ℕ) → 4 ≤ c → has_bit result.bits c ≡ false }
 {
     let low = bit_of(watch, 0, 1) + bit_of(watch, 1, 2);

@@ -40,7 +40,8 @@ fn data_of(datum: u16, first: u16, second: u16) -> Seen
 // Whether no lane can still program its part of the datum, nor have broken off.
 fn all_shown<W: BusWord>(datum: W, word: W, g: Geometry) -> bool
     requires wiring { IsTrue (is_wiring W.WIDTH g.lanes g.device) }
-    ensures { IsTrue result → (c : ℕ) → c < g.lanes → is_complement (lane_of (unit_len g.device) (W.bytes datum) c) (lane_of (unit_len g.device) (W.bytes word) c) ≡ false }
+    ensures { IsTrue result → (c : ℕ) → c < g.lanes
+        → is_complement (lane_of (unit_len g.device) (W.bytes datum) c) (lane_of (unit_len g.device) (W.bytes word) c) ≡ false }
 {
     let bytes = lane_bytes(g.device);
     for lane in 0..g.lanes {
@@ -54,7 +55,9 @@ fn all_shown<W: BusWord>(datum: W, word: W, g: Geometry) -> bool
 // What two words tell of all lanes.
 fn data_watch<W: BusWord>(datum: W, first: W, second: W, g: Geometry) -> Watch
     requires wiring { IsTrue (is_wiring W.WIDTH g.lanes g.device) }
-    ensures told { (c : ℕ) → c < g.lanes → seen_at result.lanes c ≡ data_says (lane_of (unit_len g.device) (W.bytes datum) c) (lane_of (unit_len g.device) (W.bytes first) c) (lane_of (unit_len g.device) (W.bytes second) c) }
+    ensures told { (c : ℕ) → c < g.lanes
+        → seen_at result.lanes c ≡ data_says (lane_of (unit_len g.device) (W.bytes datum) c)
+        (lane_of (unit_len g.device) (W.bytes first) c) (lane_of (unit_len g.device) (W.bytes second) c) }
     ensures past { (c : ℕ) → g.lanes ≤ c → seen_at result.lanes c ≡ Seen.Ready }
 {
     let mut lanes = [Seen::Ready; 4];
@@ -79,10 +82,15 @@ pub fn data_poll<W: BusWord, B: Bus<W>>(
     datum: W,
 ) -> Result<Watch, Off>
     requires wiring { IsTrue (is_wiring W.WIDTH g.lanes g.device) }
-    ensures told { IfOk result (λ watch. IsOwn W.WIDTH g (B.state bus.old) → at < units_of (B.state bus.old) → (c : ℕ) → c < lanes_of (B.state bus.old) → TellsDatum at (lane_of (wide (lane (B.state bus.old) c)) (W.bytes datum) c) (lane (B.state bus.old) c) (seen_at watch.lanes c) (lane (B.state bus.new) c)) }
-    ensures past { IfOk result (λ watch. (c : ℕ) → g.lanes ≤ c → seen_at watch.lanes c ≡ Seen.Ready) }
+    ensures told { IfOk result (λ watch. IsOwn W.WIDTH g (B.state bus.old)
+        → at < units_of (B.state bus.old) → (c : ℕ) → c < lanes_of (B.state bus.old)
+        → TellsDatum at (lane_of (wide (lane (B.state bus.old) c)) (W.bytes datum) c)
+        (lane (B.state bus.old) c) (seen_at watch.lanes c) (lane (B.state bus.new) c)) }
+    ensures past { IfOk result (λ watch. (c : ℕ) → g.lanes ≤ c
+        → seen_at watch.lanes c ≡ Seen.Ready) }
     ensures went { OnOk result (ReadBy 1 2 (B.state bus.old) (B.state bus.new)) }
-    ensures short { IfOk result (λ watch. (c : ℕ) → seen_at watch.lanes c ≡ Seen.Working → ReadBy 2 2 (B.state bus.old) (B.state bus.new)) }
+    ensures short { IfOk result (λ watch. (c : ℕ) → seen_at watch.lanes c ≡ Seen.Working
+        → ReadBy 2 2 (B.state bus.old) (B.state bus.new)) }
     ensures lost { OnErr result (Lost 2 (B.state bus.old) (B.state bus.new)) }
     ensures dark { OnErr result (EachLane DarkensReading (B.state bus.old) (B.state bus.new)) }
     ensures units { units_of (B.state bus.new) ≡ units_of (B.state bus.old) }

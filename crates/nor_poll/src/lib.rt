@@ -1,4 +1,4 @@
-//! Polls of a bank: what each of its lanes is at.
+//! Polls of a bank: what each of its lanes is at; and the calls of both command sets.
 //!
 //! A poll reads the bus and tells of each lane whether it works, is ready, holds a suspended erase
 //! or broke off. It tells the truth of each lane by itself, whatever the others do: `Told` and `ToldAt`
@@ -10,33 +10,46 @@
 //! the datum: `specs/Toggles.antt` says what they ask of a chip. `poll` makes any of them, and
 //! `wait_ready` polls until no lane works.
 //!
-//! The words that the calls of both command sets share stand here too, with the set as a parameter:
-//! `specs/Rest.antt` and `specs/Word.antt` say what settles a chip and what a program makes of it,
-//! `specs/Counted.antt` how many cycles a call made, `specs/Reads.antt` what any number of reads make
-//! of a chip, `specs/Losing.antt` what a call that is given up leaves of one; `Halt`, `LaneSet` and
-//! `Lanes` are what those calls answer and take.
+//! The calls of both command sets stand here once, with the set as a parameter: `program_word`, `settle`,
+//! `erase_start`, `erase_look`, `suspend` and `resume`. `cycles_of` is the table of the cycles in which
+//! the sets differ, and `write_cycles` the one loop that writes them. What a call makes of a lane is one
+//! record in `specs/Word.antt`, `Rest.antt`, `Erase.antt`, `Suspend.antt` or `Resume.antt`; what the state
+//! of a lane under erase says of its chip is `LaneIs` in `specs/UnderErase.antt`; `specs/Reads.antt` says
+//! what any number of reads make of a chip, `specs/Losing.antt` what a call that is given up leaves.
 //!
 //! It works over any bus, and stands on nor_bus for the cycles and on nor_word for the lanes of a
 //! word.
 #![tactic(auto)]
 
 mod broken;
+mod codes;
 mod data;
+mod erase;
 mod lanes;
 mod look;
 mod polling;
+mod rest;
+mod resuming;
 mod status;
+mod suspending;
 #[cfg(test)]
 mod tests;
 mod toggle;
 mod wait;
 mod watch;
+mod word;
 
 pub use broken::broken_lanes;
+pub use codes::{Command, Cycle, To, cycles_of, write_cycles};
 pub use data::data_poll;
+pub use erase::{erase_look, erase_start};
 pub use lanes::{Halt, LaneSet, LaneState, Lanes};
 pub use polling::{Polling, poll};
+pub use rest::settle;
+pub use resuming::resume;
 pub use status::status_poll;
+pub use suspending::suspend;
 pub use toggle::toggle_poll;
 pub use wait::wait_ready;
 pub use watch::{Broke, Seen, Watch};
+pub use word::program_word;

@@ -34,11 +34,18 @@ pub fn poll<W: BusWord, B: Bus<W>>(
     how: Polling<W>,
 ) -> Result<Watch, Off>
     requires wiring { IsTrue (is_wiring W.WIDTH g.lanes g.device) }
-    ensures told { IfOk result (λ watch. IsOwn W.WIDTH g (B.state bus.old) → at < units_of (B.state bus.old) → (c : ℕ) → c < lanes_of (B.state bus.old) → Answers W.bytes how at c (lane (B.state bus.old) c) → ToldAt at (lane (B.state bus.old) c) (seen_at watch.lanes c) (lane (B.state bus.new) c)) }
-    ensures past { IfOk result (λ watch. (c : ℕ) → g.lanes ≤ c → seen_at watch.lanes c ≡ Seen.Ready) }
+    ensures told { IfOk result (λ watch. IsOwn W.WIDTH g (B.state bus.old)
+        → at < units_of (B.state bus.old) → (c : ℕ) → c < lanes_of (B.state bus.old)
+        → Answers W.bytes how at c (lane (B.state bus.old) c)
+        → ToldAt at (lane (B.state bus.old) c) (seen_at watch.lanes c) (lane (B.state bus.new) c)) }
+    ensures past { IfOk result (λ watch. (c : ℕ) → g.lanes ≤ c
+        → seen_at watch.lanes c ≡ Seen.Ready) }
     ensures went { OnOk result (ReadBy 1 (most_reads how) (B.state bus.old) (B.state bus.new)) }
-    ensures short { IfOk result (λ watch. (c : ℕ) → seen_at watch.lanes c ≡ Seen.Working → ReadBy (working_reads how) (working_reads how) (B.state bus.old) (B.state bus.new)) }
-    ensures late { OnOk result (IsOwn W.WIDTH g (B.state bus.old) → at < units_of (B.state bus.old) → ((c : ℕ) → c < lanes_of (B.state bus.old) → Answers W.bytes how at c (lane (B.state bus.old) c)) → InTime how (B.state bus.old) (B.state bus.new)) }
+    ensures short { IfOk result (λ watch. (c : ℕ) → seen_at watch.lanes c ≡ Seen.Working
+        → ReadBy (working_reads how) (working_reads how) (B.state bus.old) (B.state bus.new)) }
+    ensures late { OnOk result (IsOwn W.WIDTH g (B.state bus.old) → at < units_of (B.state bus.old)
+        → ((c : ℕ) → c < lanes_of (B.state bus.old) → Answers W.bytes how at c (lane (B.state bus.old) c))
+        → InTime how (B.state bus.old) (B.state bus.new)) }
     ensures lost { OnErr result (Lost (most_reads how) (B.state bus.old) (B.state bus.new)) }
     ensures dark { OnErr result (EachLane DarkensReading (B.state bus.old) (B.state bus.new)) }
     ensures units { units_of (B.state bus.new) ≡ units_of (B.state bus.old) }

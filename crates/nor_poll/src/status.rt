@@ -43,7 +43,8 @@ fn seen_of(status: u16) -> Seen
 /// What the status registers of all lanes say.
 pub fn watch_of<W: BusWord>(word: W, g: Geometry) -> Watch
     requires wiring { IsTrue (is_wiring W.WIDTH g.lanes g.device) }
-    ensures told { (c : ℕ) → c < g.lanes → seen_at result.lanes c ≡ status_says (lane_of (unit_len g.device) (W.bytes word) c) }
+    ensures told { (c : ℕ) → c < g.lanes
+        → seen_at result.lanes c ≡ status_says (lane_of (unit_len g.device) (W.bytes word) c) }
     ensures past { (c : ℕ) → g.lanes ≤ c → seen_at result.lanes c ≡ Seen.Ready }
 {
     let mut lanes = [Seen::Ready; 4];
@@ -62,8 +63,11 @@ pub fn watch_of<W: BusWord>(word: W, g: Geometry) -> Watch
 /// doesn't have is taken modulo its bus words. `Off` comes exactly where the cycle failed.
 pub fn status_poll<W: BusWord, B: Bus<W>>(bus: &mut B, g: Geometry, at: u32) -> Result<Watch, Off>
     requires wiring { IsTrue (is_wiring W.WIDTH g.lanes g.device) }
-    ensures told { IfOk result (λ watch. IsOwn W.WIDTH g (B.state bus.old) → (c : ℕ) → c < lanes_of (B.state bus.old) → TellsStatus (lane (B.state bus.old) c) (seen_at watch.lanes c) (lane (B.state bus.new) c)) }
-    ensures past { IfOk result (λ watch. (c : ℕ) → g.lanes ≤ c → seen_at watch.lanes c ≡ Seen.Ready) }
+    ensures told { IfOk result (λ watch. IsOwn W.WIDTH g (B.state bus.old) → (c : ℕ)
+        → c < lanes_of (B.state bus.old)
+        → TellsStatus (lane (B.state bus.old) c) (seen_at watch.lanes c) (lane (B.state bus.new) c)) }
+    ensures past { IfOk result (λ watch. (c : ℕ) → g.lanes ≤ c
+        → seen_at watch.lanes c ≡ Seen.Ready) }
     ensures went { OnOk result (Went 1 1 (B.state bus.old) (B.state bus.new)) }
     ensures read { OnOk result (ReadBy 1 1 (B.state bus.old) (B.state bus.new)) }
     ensures lost { OnErr result (Lost 1 (B.state bus.old) (B.state bus.new)) }
@@ -73,8 +77,6 @@ pub fn status_poll<W: BusWord, B: Bus<W>>(bus: &mut B, g: Geometry, at: u32) -> 
     ensures units { units_of (B.state bus.new) ≡ units_of (B.state bus.old) }
     ensures wired { IsWired W.WIDTH (B.state bus.old) }
 {
-    // A chip shows its status at every address.
-    let there = at % bus.units();
-    let word = read_word::<W, B>(bus, there)?;
+    let word = read_word::<W, B>(bus, at)?;
     Ok(watch_of(word, g))
 }

@@ -87,8 +87,11 @@ fn over_of(second: u16, third: u16) -> Seen
 // Whether some lane worked at the first of two reads, and none at the second.
 fn just_ended<W: BusWord>(first: W, second: W, g: Geometry) -> bool
     requires wiring { IsTrue (is_wiring W.WIDTH g.lanes g.device) }
-    ensures over { IsTrue result → (c : ℕ) → c < g.lanes → works_on (lane_of (unit_len g.device) (W.bytes first) c) (lane_of (unit_len g.device) (W.bytes second) c) ≡ false }
-    ensures some { IsTrue result → (c : ℕ) × (c < g.lanes) × (pair_says (lane_of (unit_len g.device) (W.bytes first) c) (lane_of (unit_len g.device) (W.bytes second) c) ≡ Seen.Working) }
+    ensures over { IsTrue result → (c : ℕ) → c < g.lanes
+        → works_on
+        (lane_of (unit_len g.device) (W.bytes first) c) (lane_of (unit_len g.device) (W.bytes second) c) ≡ false }
+    ensures some { IsTrue result → (c : ℕ) × (c < g.lanes)
+        × (pair_says (lane_of (unit_len g.device) (W.bytes first) c) (lane_of (unit_len g.device) (W.bytes second) c) ≡ Seen.Working) }
 {
     let bytes = lane_bytes(g.device);
     let mut ended = false;
@@ -107,7 +110,9 @@ fn just_ended<W: BusWord>(first: W, second: W, g: Geometry) -> bool
 // What two words tell of all lanes.
 fn pair_watch<W: BusWord>(first: W, second: W, g: Geometry) -> Watch
     requires wiring { IsTrue (is_wiring W.WIDTH g.lanes g.device) }
-    ensures told { (c : ℕ) → c < g.lanes → seen_at result.lanes c ≡ pair_says (lane_of (unit_len g.device) (W.bytes first) c) (lane_of (unit_len g.device) (W.bytes second) c) }
+    ensures told { (c : ℕ) → c < g.lanes
+        → seen_at result.lanes c ≡ pair_says
+        (lane_of (unit_len g.device) (W.bytes first) c) (lane_of (unit_len g.device) (W.bytes second) c) }
     ensures past { (c : ℕ) → g.lanes ≤ c → seen_at result.lanes c ≡ Seen.Ready }
 {
     let mut lanes = [Seen::Ready; 4];
@@ -122,7 +127,9 @@ fn pair_watch<W: BusWord>(first: W, second: W, g: Geometry) -> Watch
 // The same where no lane works any more.
 fn over_watch<W: BusWord>(first: W, second: W, g: Geometry) -> Watch
     requires wiring { IsTrue (is_wiring W.WIDTH g.lanes g.device) }
-    ensures told { (c : ℕ) → c < g.lanes → seen_at result.lanes c ≡ over_says (lane_of (unit_len g.device) (W.bytes first) c) (lane_of (unit_len g.device) (W.bytes second) c) }
+    ensures told { (c : ℕ) → c < g.lanes
+        → seen_at result.lanes c ≡ over_says
+        (lane_of (unit_len g.device) (W.bytes first) c) (lane_of (unit_len g.device) (W.bytes second) c) }
     ensures past { (c : ℕ) → g.lanes ≤ c → seen_at result.lanes c ≡ Seen.Ready }
 {
     let mut lanes = [Seen::Ready; 4];
@@ -148,11 +155,17 @@ fn over_watch<W: BusWord>(first: W, second: W, g: Geometry) -> Watch
 /// where a cycle failed.
 pub fn toggle_poll<W: BusWord, B: Bus<W>>(bus: &mut B, g: Geometry, at: u32) -> Result<Watch, Off>
     requires wiring { IsTrue (is_wiring W.WIDTH g.lanes g.device) }
-    ensures told { IfOk result (λ watch. IsOwn W.WIDTH g (B.state bus.old) → at < units_of (B.state bus.old) → (c : ℕ) → c < lanes_of (B.state bus.old) → TellsToggle at (lane (B.state bus.old) c) (seen_at watch.lanes c) (lane (B.state bus.new) c)) }
-    ensures past { IfOk result (λ watch. (c : ℕ) → g.lanes ≤ c → seen_at watch.lanes c ≡ Seen.Ready) }
+    ensures told { IfOk result (λ watch. IsOwn W.WIDTH g (B.state bus.old)
+        → at < units_of (B.state bus.old) → (c : ℕ) → c < lanes_of (B.state bus.old)
+        → TellsToggle at (lane (B.state bus.old) c) (seen_at watch.lanes c) (lane (B.state bus.new) c)) }
+    ensures past { IfOk result (λ watch. (c : ℕ) → g.lanes ≤ c
+        → seen_at watch.lanes c ≡ Seen.Ready) }
     ensures went { OnOk result (ReadBy 2 3 (B.state bus.old) (B.state bus.new)) }
-    ensures short { IfOk result (λ watch. (c : ℕ) → seen_at watch.lanes c ≡ Seen.Working → ReadBy 2 2 (B.state bus.old) (B.state bus.new)) }
-    ensures late { OnOk result (IsOwn W.WIDTH g (B.state bus.old) → at < units_of (B.state bus.old) → AllLanes (ShowsToggle at) (B.state bus.old) → TwoOrLate (B.state bus.old) (B.state bus.new)) }
+    ensures short { IfOk result (λ watch. (c : ℕ) → seen_at watch.lanes c ≡ Seen.Working
+        → ReadBy 2 2 (B.state bus.old) (B.state bus.new)) }
+    ensures late { OnOk result (IsOwn W.WIDTH g (B.state bus.old) → at < units_of (B.state bus.old)
+        → AllLanes (ShowsToggle at) (B.state bus.old)
+        → TwoOrLate (B.state bus.old) (B.state bus.new)) }
     ensures lost { OnErr result (Lost 3 (B.state bus.old) (B.state bus.new)) }
     ensures dark { OnErr result (EachLane DarkensReading (B.state bus.old) (B.state bus.new)) }
     ensures units { units_of (B.state bus.new) ≡ units_of (B.state bus.old) }

@@ -5,11 +5,10 @@ use Rattle.std.specs.Result.{result_err}
 use Rattle.nor_cell.specs.Chip.{ChipState}
 use Rattle.nor_cell.specs.declared.geometry.Geometry.{Geometry}
 use Rattle.nor_bus.specs.Bus.{BusState, lane}
-use Rattle.nor_bus.specs.Driven.{Went, EachLane}
-use Rattle.nor_bus.proofs.Driving.{went_then}
+use Rattle.nor_bus.specs.Driven.{Went, EachLane, Counted}
+use Rattle.nor_bus.proofs.Counting.{counted_exactly, counted_then}
 use Rattle.nor_query.specs.Checks.{first_error}
 use Rattle.nor_probe.specs.Asking.{Resets, Rests}
-use Rattle.nor_probe.specs.Counted.{Counted}
 use Rattle.nor_probe.specs.Probed.{refusal, refusal_in, IsCommonTable, IsFoundBy, IsFoundOn}
 use Rattle.nor_probe.specs.Tables.{table_read, first_difference}
 use Rattle.nor_probe.specs.declared.error.ProbeError.TheVariants.{Query}
@@ -37,16 +36,10 @@ clash o x none some = let both : None ≡ Some x = sym none ∙ some in cc
 
 -- ---- cycles, and the reset at the end
 
-pub counted_more : (m n q : ℕ) (a b c : BusState) → m + n ≤ q → Counted m a b → Went n n b c → Counted q a c
-counted_more m n q a b c fits first went =
-    let few = first.few in
-    record {
-      cycles = first.cycles + n;
-      few = omega (arith, fits, few);
-      went = went_then first.cycles first.cycles n n (first.cycles + n) (first.cycles + n) a b c (omega arith) (omega arith) first.went went;
-    }
+pub counted_more : (m n q : ℕ) (a b c : BusState) → m + n ≤ q → Counted 0 m a b → Went n n b c → Counted 0 q a c
+counted_more m n q a b c fits first went = counted_then 0 m n n 0 q a b c (omega arith) fits first (counted_exactly n b c went)
 
-pub reset_last : (m : ℕ) (old now new : BusState) → Counted m old now → EachLane Rests old now → EachLane Resets now new → EachLane Resets old new
+pub reset_last : (m : ℕ) (old now new : BusState) → Counted 0 m old now → EachLane Rests old now → EachLane Resets now new → EachLane Resets old new
 reset_last m old now new counted rests resets = λ c below.
     rests_reset (lane old c) (lane now c) (lane new c) (rests c below) (resets c (subst (λ (n : ℕ). c < n) (sym counted.went.kept.count) below))
 

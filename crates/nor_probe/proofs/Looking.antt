@@ -1,17 +1,15 @@
 -- A bank that answers to a wiring, and what is then read of it.
-use Rattle.std.proofs.Common.{◌≡◌, ◌<◌, ◌≤◌, ◌+◌, ◌∙◌, ℕ, List, map, true, Option, Some, None, OnSome, sym, ap, subst, arith}
+use Rattle.std.proofs.Common.{◌≡◌, ◌<◌, ◌∙◌, ℕ, List, map, true, Option, Some, None, OnSome, sym, ap, subst}
 use Rattle.std.specs.List.{find, range_with_len}
 use Rattle.std.specs.Option.{option_and_then, option_or, option_map, is_some}
 use Rattle.nor_cell.specs.Resting.{IsResting}
 use Rattle.nor_cell.specs.declared.geometry.Geometry.{Geometry}
 use Rattle.nor_bus.specs.Bus.{BusState, lane}
 use Rattle.nor_bus.specs.Cycles.{KeepsLanes}
-use Rattle.nor_bus.specs.Driven.{Lost, EachLane, AllLanes}
-use Rattle.nor_bus.proofs.Driving.{went_then, lost_then}
+use Rattle.nor_bus.specs.Driven.{EachLane, AllLanes, Counted}
 use Rattle.nor_lane.specs.Candidates.{candidates_of}
 use Rattle.nor_query.specs.Checks.{first_error}
 use Rattle.nor_probe.specs.Asking.{Asks, Rests, ShowsQuery, Stays}
-use Rattle.nor_probe.specs.Counted.{Counted}
 use Rattle.nor_probe.specs.Found.{query_address, shows_qry, found_geometry}
 use Rattle.nor_probe.specs.Probed.{refusal, refusal_in, IsCommonTable}
 use Rattle.nor_probe.specs.Tables.{low_byte, odd_lane, difference_in, table_read, first_difference}
@@ -22,19 +20,6 @@ use Rattle.nor_probe.proofs.Shown.{asked_shows, asked_stays, asked_rests, shows_
 
 -- ---- cycles
 
-pub counted_then : (m n q : ℕ) (a b c : BusState) → m + n ≤ q → Counted m a b → Counted n b c → Counted q a c
-counted_then m n q a b c fits first second =
-    let few = first.few in
-    let more = second.few in
-    record {
-      cycles = first.cycles + second.cycles;
-      few = omega (arith, fits, few, more);
-      went = went_then first.cycles first.cycles second.cycles second.cycles (first.cycles + second.cycles) (first.cycles + second.cycles) a b c (omega arith) (omega arith) first.went second.went;
-    }
-
-pub counted_lost : (m n q : ℕ) (a b c : BusState) → m + n ≤ q → Counted m a b → Lost n b c → Lost q a c
-counted_lost m n q a b c fits first lost = let few = first.few in lost_then first.cycles first.cycles n q a b c (omega (arith, fits, few)) first.went lost
-
 -- ---- a wiring that was found
 
 on_some : {X : Type 0} (o : Option X) (x : X) (P : Type 0) → o ≡ Some x → OnSome o P → P
@@ -43,11 +28,11 @@ on_some (Some y) x P is fact = fact
 
 -- The chips were asked, and answer to a wiring.
 pub record Answers (width : ℕ) (g : Geometry) (old now : BusState) : Type 0 where
-  pub counted : Counted 21 old now
+  pub counted : Counted 0 21 old now
   pub asks : EachLane Asks old now
   pub wiring : AllLanes IsResting old → found_geometry width old.lanes ≡ Some g
 
-pub answers_of : (width : ℕ) (g : Geometry) (old now : BusState) (found : Option Geometry) → Counted 21 old now → OnSome found (EachLane Asks old now)
+pub answers_of : (width : ℕ) (g : Geometry) (old now : BusState) (found : Option Geometry) → Counted 0 21 old now → OnSome found (EachLane Asks old now)
     → (AllLanes IsResting old → found ≡ found_geometry width old.lanes) → found ≡ Some g → Answers width g old now
 answers_of width g old now found counted asked is some = record {
   counted = counted;

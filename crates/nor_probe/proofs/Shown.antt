@@ -11,7 +11,7 @@ use Rattle.nor_cell.proofs.Resting.{query_resting}
 use Rattle.nor_cell.specs.declared.geometry.Geometry.{Geometry}
 use Rattle.nor_bus.specs.Bus.{BusState, lane, chip_at}
 use Rattle.nor_bus.specs.Cycles.{KeepsLanes}
-use Rattle.nor_bus.specs.Driven.{EachLane, AllLanes, Went}
+use Rattle.nor_bus.specs.Driven.{EachLane, AllLanes, Went, Counted}
 use Rattle.nor_bus.specs.Words.{query_word}
 use Rattle.nor_bus.proofs.Words.{same_chips, same_words}
 use Rattle.nor_bus.proofs.Driving.{went_then, went_none}
@@ -19,7 +19,6 @@ use Rattle.nor_cell.specs.Wiring.{is_wiring}
 use Rattle.nor_lane.specs.Candidates.{candidates_of}
 use Rattle.nor_lane.proofs.Geometries.{candidates_fit}
 use Rattle.nor_probe.specs.Asking.{Resets, Asks, ShowsQuery, Stays, Rests}
-use Rattle.nor_probe.specs.Counted.{Counted}
 use Rattle.nor_probe.specs.Found.{lanes_read, query_address, shows_at, shows_qry, found_geometry}
 
 -- ---- chips that stay as they are
@@ -140,13 +139,13 @@ pub tried_asks : (width i : ℕ) (old now new : BusState) → Tried width i old 
 tried_asks width i old now new so asks = next_asks old now new so.went.kept so.rests asks
 
 -- so many cycles
-pub tried_counted : (width i : ℕ) (old now : BusState) → Tried width i old now → i ≤ 3 → Counted 21 old now
-tried_counted width i old now so few = record { cycles = 7 * i; few = omega arith; went = so.went }
+pub tried_counted : (width i : ℕ) (old now : BusState) → Tried width i old now → i ≤ 3 → Counted 0 21 old now
+tried_counted width i old now so few = record { cycles = 7 * i; enough = omega arith; few = omega arith; went = so.went }
 
 -- and seven more
-pub tried_and_seven : (width i : ℕ) (old now new : BusState) → Tried width i old now → Went 7 7 now new → i < 3 → Counted 21 old new
+pub tried_and_seven : (width i : ℕ) (old now new : BusState) → Tried width i old now → Went 7 7 now new → i < 3 → Counted 0 21 old new
 tried_and_seven width i old now new so went few =
-    record { cycles = 7 * i + 7; few = omega arith; went = went_then (7 * i) (7 * i) 7 7 (7 * i + 7) (7 * i + 7) old now new (omega arith) (omega arith) so.went went }
+    record { cycles = 7 * i + 7; enough = omega arith; few = omega arith; went = went_then (7 * i) (7 * i) 7 7 (7 * i + 7) (7 * i + 7) old now new (omega arith) (omega arith) so.went went }
 
 -- the wiring that is tried next
 pub next_wiring : (width i : ℕ) (xs : List Geometry) (d : Geometry) → xs ≡ candidates_of width → i < length xs

@@ -13,10 +13,9 @@ use Rattle.nor_cell.specs.declared.device.Device.TheVariants.{X8, X16, X16Byte}
 use Rattle.nor_cell.specs.declared.geometry.Geometry.{Geometry}
 use Rattle.nor_word.specs.Word.{lane_of}
 use Rattle.nor_bus.specs.Bus.{BusState, lane}
-use Rattle.nor_bus.specs.Driven.{Went, Lost, EachLane, AllLanes}
+use Rattle.nor_bus.specs.Driven.{Went, Lost, EachLane, AllLanes, Counted}
 use Rattle.nor_bus.proofs.Driving.{went_none, went_then, lost_then}
 use Rattle.nor_probe.specs.Asking.{ShowsQuery, Stays}
-use Rattle.nor_probe.specs.Counted.{Counted}
 use Rattle.nor_probe.specs.Found.{query_address, shows_at, shows_qry}
 use Rattle.nor_probe.specs.Tables.{table_word, low_byte, odd_lane, difference_in, table_read, first_difference, known_byte, reads_at, reads_before}
 use Rattle.nor_probe.specs.declared.error.ProbeError.{ProbeError}
@@ -251,13 +250,13 @@ this_first g n old now table e so inside differs all shows =
 
 -- ---- the cycles of it
 
-pub read_counted : (g : Geometry) (n : ℕ) (old now : BusState) (table : List ℕ) → ReadSoFar g n old now table → n ≤ 512 → Counted 501 old now
-read_counted g n old now table so most = record { cycles = reads_before g.device n; few = few_reads g.device n most; went = so.went }
+pub read_counted : (g : Geometry) (n : ℕ) (old now : BusState) (table : List ℕ) → ReadSoFar g n old now table → n ≤ 512 → Counted 0 501 old now
+read_counted g n old now table so most = record { cycles = reads_before g.device n; enough = omega arith; few = few_reads g.device n most; went = so.went }
 
 pub next_counted : (g : Geometry) (n : ℕ) (old now new : BusState) (table : List ℕ) → ReadSoFar g n old now table → n < 512
-    → Went (reads_at g.device n) (reads_at g.device n) now new → Counted 501 old new
+    → Went (reads_at g.device n) (reads_at g.device n) now new → Counted 0 501 old new
 next_counted g n old now new table so below went =
-    record { cycles = reads_before g.device (n + 1); few = few_reads g.device (n + 1) (omega arith); went = went_more g n old now new table so went }
+    record { cycles = reads_before g.device (n + 1); enough = omega arith; few = few_reads g.device (n + 1) (omega arith); went = went_more g n old now new table so went }
 
 pub read_lost : (g : Geometry) (n : ℕ) (old now new : BusState) (table : List ℕ) → ReadSoFar g n old now table → n < 512 → Lost 1 now new → Lost 501 old new
 read_lost g n old now new table so below lost =

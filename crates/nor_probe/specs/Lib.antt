@@ -1,5 +1,4 @@
 pub mod Asking
-pub mod Counted
 pub mod Found
 pub mod Probed
 pub mod Tables

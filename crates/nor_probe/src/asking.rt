@@ -48,8 +48,11 @@ pub fn enter_query<W: BusWord, B: Bus<W>>(bus: &mut B) -> Result<(), Off>
 /// Reads a word of chips that show their query tables. One cycle.
 pub fn read_query<W: BusWord, B: Bus<W>>(bus: &mut B, at: u32) -> Result<W, Off>
     ensures went { OnOk result (Went 1 1 (B.state bus.old) (B.state bus.new)) }
-    ensures lanes { OnOk result (at < units_of (B.state bus.old) → EachLane Stays (B.state bus.old) (B.state bus.new)) }
-    ensures word { IfOk result (λ word. at < units_of (B.state bus.old) → AllLanes ShowsQuery (B.state bus.old) → W.bytes word ≡ query_word (B.state bus.old).lanes at) }
+    ensures lanes { OnOk result (at < units_of (B.state bus.old)
+        → EachLane Stays (B.state bus.old) (B.state bus.new)) }
+    ensures word { IfOk result (λ word. at < units_of (B.state bus.old)
+        → AllLanes ShowsQuery (B.state bus.old)
+        → W.bytes word ≡ query_word (B.state bus.old).lanes at) }
     ensures lost { OnErr result (Lost 1 (B.state bus.old) (B.state bus.new)) }
     ensures units { units_of (B.state bus.new) ≡ units_of (B.state bus.old) }
     ensures wired { IsWired W.WIDTH (B.state bus.old) }

@@ -5,10 +5,9 @@ ghost use Rattle.nor_cell.specs.Resting.{IsResting};
 ghost use Rattle.nor_cell.specs.Wiring.{is_wiring};
 ghost use Rattle.nor_cell.specs.declared.geometry.Geometry.{Geometry};
 ghost use Rattle.nor_bus.specs.Bus.{units_of};
-ghost use Rattle.nor_bus.specs.Driven.{Lost, EachLane, AllLanes};
+ghost use Rattle.nor_bus.specs.Driven.{Lost, EachLane, AllLanes, Counted};
 ghost use Rattle.nor_query.specs.Checks.{first_error};
 ghost use Rattle.nor_probe.specs.Asking.{Resets, Rests};
-ghost use Rattle.nor_probe.specs.Counted.{Counted};
 ghost use Rattle.nor_probe.specs.Probed.{refusal, IsCommonTable, IsFoundBy, IsFoundOn};
 ghost use Rattle.nor_probe.specs.WellWired.{IsWellWired, ShowsItself, AllShow, IsOwnFound};
 ghost use Rattle.nor_probe.specs.declared.error.ProbeError.TheVariants.{Query as QueryRefused, Off as LostPower};
@@ -39,7 +38,7 @@ pub struct Found {
 fn look<W: BusWord, B: Bus<W>>(
     bus: &mut B,
 ) -> Result<Result<(Geometry, [u8; 512]), ProbeError>, Off>
-    ensures counted { OnOk result (Counted 522 (B.state bus.old) (B.state bus.new)) }
+    ensures counted { OnOk result (Counted 0 522 (B.state bus.old) (B.state bus.new)) }
     ensures lanes { OnOk result (EachLane Rests (B.state bus.old) (B.state bus.new)) }
     ensures refused { IfOk result (λ seen. AllLanes IsResting (B.state bus.old)
         → IfErr seen (λ e. refusal W.WIDTH (B.state bus.old).lanes ≡ Some e)) }
@@ -105,7 +104,7 @@ pub fn probe<W: BusWord, B: Bus<W>>(bus: &mut B) -> Result<Found, ProbeError>
         → AllLanes IsResting (B.state bus.old) → AllShow table (B.state bus.old)
         → first_error table ≡ None → result ≢ Err LostPower → IsOk result }
 
-    ensures counted { result ≢ Err LostPower → Counted 524 (B.state bus.old) (B.state bus.new) }
+    ensures counted { result ≢ Err LostPower → Counted 0 524 (B.state bus.old) (B.state bus.new) }
     ensures lanes { result ≢ Err LostPower → EachLane Resets (B.state bus.old) (B.state bus.new) }
     ensures lost { result ≡ Err LostPower → Lost 524 (B.state bus.old) (B.state bus.new) }
     ensures units { units_of (B.state bus.new) ≡ units_of (B.state bus.old) }

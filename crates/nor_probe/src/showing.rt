@@ -47,7 +47,8 @@ fn shows_letter<W: BusWord, B: Bus<W>>(
     requires low { n < 512 }
     ensures went { OnOk result (Went 1 1 (B.state bus.old) (B.state bus.new)) }
     ensures lanes { OnOk result (EachLane Stays (B.state bus.old) (B.state bus.new)) }
-    ensures shows { IfOk result (λ shows. AllLanes ShowsQuery (B.state bus.old) → shows ≡ shows_at g (B.state bus.old).lanes n letter) }
+    ensures shows { IfOk result (λ shows. AllLanes ShowsQuery (B.state bus.old)
+        → shows ≡ shows_at g (B.state bus.old).lanes n letter) }
     ensures lost { OnErr result (Lost 1 (B.state bus.old) (B.state bus.new)) }
     ensures units { units_of (B.state bus.new) ≡ units_of (B.state bus.old) }
 {
@@ -66,7 +67,8 @@ pub fn shows_qry<W: BusWord, B: Bus<W>>(bus: &mut B, g: Geometry) -> Result<bool
     requires { IsTrue (is_wiring W.WIDTH g.lanes g.device) }
     ensures went { OnOk result (Went 3 3 (B.state bus.old) (B.state bus.new)) }
     ensures lanes { OnOk result (EachLane Stays (B.state bus.old) (B.state bus.new)) }
-    ensures shows { IfOk result (λ shows. AllLanes ShowsQuery (B.state bus.old) → shows ≡ shows_qry_lem g (B.state bus.old).lanes) }
+    ensures shows { IfOk result (λ shows. AllLanes ShowsQuery (B.state bus.old)
+        → shows ≡ shows_qry_lem g (B.state bus.old).lanes) }
     ensures lost { OnErr result (Lost 3 (B.state bus.old) (B.state bus.new)) }
     ensures units { units_of (B.state bus.new) ≡ units_of (B.state bus.old) }
 {

@@ -3,9 +3,8 @@ ghost use Rattle.std.specs.Prelude.{◌≡◌, ◌≢◌, ◌<◌, IfOk, IfErr, 
 ghost use Rattle.std.specs.Result.{result_err};
 ghost use Rattle.nor_cell.specs.Wiring.{is_wiring};
 ghost use Rattle.nor_bus.specs.Bus.{units_of};
-ghost use Rattle.nor_bus.specs.Driven.{Went, Lost, EachLane, AllLanes};
+ghost use Rattle.nor_bus.specs.Driven.{Went, Lost, EachLane, AllLanes, Counted};
 ghost use Rattle.nor_probe.specs.Asking.{ShowsQuery, Stays};
-ghost use Rattle.nor_probe.specs.Counted.{Counted};
 ghost use Rattle.nor_probe.specs.Found.{shows_qry};
 ghost use Rattle.nor_probe.specs.Tables.{table_word, low_byte as low_byte_lem, difference_in, table_read, first_difference, known_byte as known_byte_lem, reads_at};
 ghost use Rattle.nor_probe.specs.declared.error.ProbeError.TheVariants.{Off as LostPower};
@@ -102,7 +101,7 @@ pub fn read_table<W: BusWord, B: Bus<W>>(
     g: Geometry,
 ) -> Result<Result<[u8; 512], ProbeError>, Off>
     requires { IsTrue (is_wiring W.WIDTH g.lanes g.device) }
-    ensures counted { OnOk result (Counted 501 (B.state bus.old) (B.state bus.new)) }
+    ensures counted { OnOk result (Counted 0 501 (B.state bus.old) (B.state bus.new)) }
     ensures lanes { OnOk result (EachLane Stays (B.state bus.old) (B.state bus.new)) }
     ensures differs { let chips = (B.state bus.old).lanes in
         IfOk result (λ read. AllLanes ShowsQuery (B.state bus.old) → shows_qry g chips ≡ true

@@ -10,7 +10,7 @@ use Rattle.nor_cell.specs.declared.device.Set.{Set}
 use Rattle.nor_cell.specs.declared.device.Set.TheVariants.{Intel as IntelSet, Amd as AmdSet}
 use Rattle.nor_cell.specs.declared.device.SuspendKind.TheVariants.{None as NoSuspend, Read as ReadOnly, Program as ReadProgram}
 use Rattle.nor_cell.specs.declared.device.Work.{Work}
-use Rattle.nor_cell.specs.declared.device.Work.TheVariants.{Word, Buffer, Block}
+use Rattle.nor_cell.specs.declared.device.Work.TheVariants.{Word, Buffer, Block, Chip}
 use Rattle.nor_region.specs.Map.{in_order, spans_of}
 use Rattle.nor_region.specs.declared.region.Region.{Region}
 use Rattle.nor_query.specs.Derived.{suspend_of, locks_of, is_reversed, is_reversed_in, table_blocks, limit_of}
@@ -82,6 +82,7 @@ limit-times : (table : List ℕ) (times : List ℕ) (work : Work) → times ≡ 
 limit-times table times Word same = ap (λ ts. limit_of ts Word) same
 limit-times table times Buffer same = ap (λ ts. limit_of ts Buffer) same
 limit-times table times Block same = ap (λ ts. limit_of ts Block) same
+limit-times table times Chip same = ap (λ ts. limit_of ts Chip) same
 
 -- limits are what the chip reads
 pub limit_agrees : (table : List ℕ) (q : Query) (work : Work) → StandsFor table q → limit_of q.times work ≡ limit work table

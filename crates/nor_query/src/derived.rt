@@ -1,15 +1,15 @@
 //! What a query says beyond its fields.
 ghost use Rattle.std.specs.Prelude.{◌≡◌, ◌<◌, ◌≤◌, ◌^◌, ℕ, List, length};
 ghost use Rattle.nor_cell.specs.Bits.{has_bit};
-ghost use Rattle.nor_cell.specs.Table.{set_of, suspend_kind, intel_suspend, amd_suspend, has_locks, buffer_units_of, buffer_units, most_reads, limit};
-ghost use Rattle.nor_query.specs.Derived.{suspend_of, locks_of, is_reversed, is_reversed_in, table_blocks, time_of, limit_of};
+ghost use Rattle.nor_cell.specs.Table.{set_of, suspend_kind, intel_suspend, amd_suspend, has_locks, has_chip_erase, buffer_units_of, buffer_units, most_reads, limit};
+ghost use Rattle.nor_query.specs.Derived.{suspend_of, locks_of, chip_erase_of, is_reversed, is_reversed_in, table_blocks, time_of, limit_of};
 ghost use Rattle.nor_query.specs.Stands.{StandsFor};
 ghost use Rattle.nor_query.specs.Valid.{IsValid};
 ghost use Rattle.nor_region.specs.Map.{in_order, spans_of};
 ghost use Rattle.nor_region.specs.Regions.{total_len};
 
 use crate::{Extended, Query};
-use nor_cell::{Device, SuspendKind, Work};
+use nor_cell::{Device, Set, SuspendKind, Work};
 use nor_region::{BlockMap, block_map};
 
 // Feature bits of the Intel set, and the bit that offers programming while an erase is suspended.
@@ -44,6 +44,17 @@ impl Query {
         ensures chip { (table : List ℕ) → StandsFor table self.now → result ≡ has_locks table }
     {
         locks_of(self.extended)
+    }
+
+    /// Whether the whole chip can be erased at once: an Amd chip that gives a typical time for it.
+    pub fn has_chip_erase(&self) -> bool
+        ensures value { result ≡ chip_erase_of self.now.set self.now.times }
+        ensures chip { (table : List ℕ) → StandsFor table self.now → result ≡ has_chip_erase table }
+    {
+        match self.set {
+            Set::Intel => false,
+            Set::Amd => self.times[time_of(Work::Chip)] != 0,
+        }
     }
 
     /// Whether the last region lies at the lowest address: an Amd chip of version 1.1 or later that
@@ -167,6 +178,7 @@ fn time_of(work: Work) -> usize
         Work::Word => 0,
         Work::Buffer => 1,
         Work::Block => 2,
+        Work::Chip => 3,
     }
 }
 

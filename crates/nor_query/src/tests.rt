@@ -393,6 +393,27 @@ fn what_a_chip_offers(rt: HostRuntime) -> Result<(), Fail> {
 }
 
 #[test]
+fn the_whole_chip_is_erased_where_its_time_is_given(rt: HostRuntime) -> Result<(), Fail> {
+    let mut timed = tables::amd();
+    timed[0x22] = 0x0A;
+    timed[0x26] = 2;
+    let mut other_set = tables::intel();
+    other_set[0x22] = 0x0A;
+    other_set[0x26] = 2;
+    for (table, offered, limit) in [
+        (tables::amd(), false, 17),
+        (timed, true, 4112),
+        (other_set, false, 4112),
+        (tables::musicpal_top(), true, 1_048_592),
+    ] {
+        let query = decode(&table)?;
+        assert_eq!(rt; query.has_chip_erase(), offered);
+        assert_eq!(rt; query.limit(Work::Chip), limit);
+    }
+    Ok(())
+}
+
+#[test]
 fn queries_that_no_table_can_stand_for(rt: HostRuntime) -> Result<(), Fail> {
     let mut named_byte = decode(&tables::intel())?;
     named_byte.rest[0x31] = 1;

@@ -1,5 +1,5 @@
 -- The entries of each caller are those of its lines.
-use Rattle.std.proofs.Common.{◌≡◌, ◌<◌, ◌≤◌, ◌+◌, ◌-◌, ◌∙◌, ◌==◌, ⊎_elim, ◌∷◌, ℕ, zero, suc, List, [], length, Bool, true, false, cond, Some, None, refl, sym, ap, subst, arith, slice_index_or}
+use Rattle.std.proofs.Common.{◌≡◌, ◌<◌, ◌≤◌, ◌+◌, ◌-◌, ◌∙◌, ◌==◌, ⊎_elim, ◌∷◌, ℕ, zero, suc, List, [], length, Bool, true, false, cond, Some, refl, sym, ap, subst, arith, slice_index_or}
 use Rattle.std.specs.Prelude.{slice_get, All}
 use Rattle.std.proofs.lemmas.Bool.{cases_lt}
 use Rattle.std.proofs.lemmas.Option.{slice_get_within, slice_get-get_or}
@@ -16,7 +16,7 @@ use Rattle.nor_driver.specs.Fronts.{entries_of}
 use Rattle.nor_race.specs.Ran.{Tells, HasNote, Ran}
 use Rattle.nor_race.specs.Laws.{IsTeamFor}
 use Rattle.nor_race.specs.declared.note.Note.{Note}
-use Rattle.nor_race.proofs.Joining.{all_get}
+use Rattle.nor_race.proofs.Joining.{none_some, all_get}
 
 -- the note tells, of this line, an entry of caller n in a front that begins at place k
 record Fits (n k : ℕ) (note : Note) (line : Line) (front : Front Entry) : Type 0 where
@@ -36,9 +36,6 @@ record FitAll (n k : ℕ) (notes : List Note) (told : List Line) (front : Front 
 -- what stands where no line is
 no_line : Line
 no_line = record { caller = 0; number = 0; word = Erase 0 }
-
-none_is : {A B : Type 0} (x : A) → None ≡ Some x → B
-none_is x e = absurd (cc)
 
 some_is : {A : Type 0} (x y : A) → Some x ≡ Some y → x ≡ y
 some_is x y e = cc
@@ -112,7 +109,7 @@ one_entry : (n : ℕ) (pair : Name × Entry) (front : Front Entry) (k : ℕ) (no
 one_entry n pair front k notes told fit go = by_test (pair.1.caller == n) refl
   where
     told_some : (xs : List Note) (ls : List Line) → FitAll n k xs ls (pair ∷ front) → pair.1.caller ≡ n → AnswersLines ls (pair.1 ∷ entries_by n (entries_of front))
-    told_some [] [] fits by = let has = fits.whole 0 pair refl by in none_is has.note has.at
+    told_some [] [] fits by = let has = fits.whole 0 pair refl by in none_some has.note has.at
     told_some [] (l ∷ ls) fits by = absurd (let h = fits.count in omega (arith, h))
     told_some (x ∷ xs) [] fits by = absurd (let h = fits.count in omega (arith, h))
     told_some (x ∷ xs) (l ∷ ls) fits by =
@@ -152,7 +149,7 @@ answers : (n : ℕ) (front : Front Entry) (k : ℕ) (notes : List Note) (told : 
 answers n [] k [] [] fit = refl
 answers n [] k [] (line ∷ told) fit = absurd (let h = fit.count in omega (arith, h))
 answers n [] k (x ∷ notes) [] fit = absurd (let h = fit.count in omega (arith, h))
-answers n [] k (x ∷ notes) (line ∷ told) fit = none_is _ (fit.each 0 x line refl refl).at
+answers n [] k (x ∷ notes) (line ∷ told) fit = none_some _ (fit.each 0 x line refl refl).at
 answers n (pair ∷ front) k notes told fit = one_entry n pair front k notes told fit (λ xs ls fits. answers n front (k + 1) xs ls fits)
 
 -- ---- the history of a team
@@ -207,6 +204,39 @@ module _ (lines : List Line) (teams : List (List Note)) (callers : List ℕ) (p 
         some = (team.each has.worker has.notes caller has.at by).0;
       }
 
+  -- Of two notes for lines of one caller, the one with the lower position is for the lower line.
+  pub note_order : (v w i j : ℕ) (xs ys : List Note) (x y : Note) (a b : Line) → slice_get teams v ≡ Some xs → slice_get teams w ≡ Some ys → slice_get xs i ≡ Some x → slice_get ys j ≡ Some y
+      → x.position < y.position → slice_get lines x.line ≡ Some a → slice_get lines y.line ≡ Some b → a.caller ≡ b.caller → x.line < y.line
+  note_order v w i j xs ys x y a b at_v at_w at_x at_y less is_a is_b one =
+      let c = caller_of v xs at_v in
+      let d = caller_of w ys at_w in
+      let l = line_of v xs c.0 i x at_v c.1 at_x in
+      let m = line_of w ys d.0 j y at_w d.1 at_y in
+      let of_a : a.caller ≡ c.0 = ap (λ (z : Line). z.caller) (some_is a l.0 (sym is_a ∙ l.2)) ∙ l.3 in
+      let of_b : b.caller ≡ d.0 = ap (λ (z : Line). z.caller) (some_is b m.0 (sym is_b ∙ m.2)) ∙ m.3 in
+      let number : d.0 ≡ c.0 = sym of_b ∙ (sym one ∙ of_a) in
+      let mine : w ≡ v = team.apart w v c.0 (d.1 ∙ ap (λ (k : ℕ). Some k) number) c.1 in
+      let whose : ys ≡ xs = some_is ys xs (sym at_w ∙ (ap (slice_get teams) mine ∙ at_v)) in
+      in_team v xs at_v i j x y at_x (ap (λ (ns : List Note). slice_get ns j) (sym whose) ∙ at_y) less
+    where
+      caller_of : (u : ℕ) (ns : List Note) → slice_get teams u ≡ Some ns → (caller : ℕ) × (slice_get callers u ≡ Some caller)
+      caller_of u ns at =
+          let below : u < length callers = let h = team.count in let i = slice_get_within teams u ns at in omega (arith, h, i) in
+          (slice_index_or callers u 0, slice_get-get_or callers u 0 below)
+
+      in_team : (u : ℕ) (ns : List Note) → slice_get teams u ≡ Some ns → (i j : ℕ) (x y : Note) → slice_get ns i ≡ Some x → slice_get ns j ≡ Some y → x.position < y.position → x.line < y.line
+      in_team u ns at i j x y at_x at_y less = ⊎_elim
+          (λ (early : i < j). let c = caller_of u ns at in (team.each u ns c.0 at c.1).1.order i j x y early at_x at_y)
+          (λ (late : j ≤ i). ⊎_elim
+          (λ (before : j < i). absurd (let h = (ran.told u ns at).order j i y x before at_y at_x in omega (arith, h, less)))
+          (λ (back : i ≤ j).
+          let here : j ≡ i = omega (arith, late, back) in
+          let same : x ≡ y = some_is x y (sym at_x ∙ (ap (slice_get ns) (sym here) ∙ at_y)) in
+          let equal : x.position ≡ y.position = ap (λ (n : Note). n.position) same in
+          absurd (omega (arith, equal, less)))
+          (cases_lt j i))
+          (cases_lt i j)
+
   of_caller : (n w : ℕ) (notes : List Note) → slice_get callers w ≡ Some n → slice_get teams w ≡ Some notes → FitAll n 0 notes (lines_by n lines) p.seen
   of_caller n w notes by at = record {
     count = (team.each w notes n at by).1.count;
@@ -237,13 +267,13 @@ module _ (lines : List Line) (teams : List (List Note)) (callers : List ℕ) (p 
   of_none : (n : ℕ) → lines_by n lines ≡ [] → FitAll n 0 [] [] p.seen
   of_none n none = record {
     count = refl;
-    each = λ j note line there is. none_is note there;
-    order = λ i j x y less at_x at_y. none_is x at_x;
+    each = λ j note line there is. none_some note there;
+    order = λ i j x y less at_x at_y. none_some x at_x;
     whole = λ i pair there called.
         let told = told_at i pair there in
         let number : told.caller ≡ n = sym told.called ∙ called in
         let l = line_of told.worker told.notes told.caller told.index told.note told.at told.by told.there in
-        none_is l.0 (ap (λ (ls : List Line). slice_get ls told.index) (sym (ap (λ (k : ℕ). lines_by k lines) number ∙ none)) ∙ l.1);
+        none_some l.0 (ap (λ (ls : List Line). slice_get ls told.index) (sym (ap (λ (k : ℕ). lines_by k lines) number ∙ none)) ∙ l.1);
   }
 
   each_entry : (P : Entry → Type 0) → ((place : ℕ) (pair : Name × Entry) → slice_get p.seen place ≡ Some pair → P pair.1) → All P (entries_of p.seen)

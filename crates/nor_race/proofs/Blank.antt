@@ -16,7 +16,7 @@ use Rattle.nor_race.specs.Places.{all_of}
 use Rattle.nor_race.specs.Teams.{CanStart, CanRaceLine, notes_of, callers_of}
 use Rattle.nor_race.specs.declared.note.Note.{Note}
 use Rattle.nor_race.specs.declared.team.Racer.{Racer}
-use Rattle.nor_race.proofs.Joining.{all_get, prefix_get}
+use Rattle.nor_race.proofs.Joining.{none_some, all_get, prefix_get, short_get}
 use Rattle.nor_race.proofs.Racing.{racer_at}
 
 -- the notes of the first i lines were made
@@ -24,12 +24,14 @@ pub record MadeTo (lines : List Line) (caller : ℕ) (notes : List Note) (i : �
   pub fit : AreFor lines caller notes
   pub are : AreForLines lines caller notes (lines_by caller (take i lines))
   pub few : length notes ≤ i
+  pub below : (j : ℕ) (note : Note) → slice_get notes j ≡ Some note → note.line < i
 
 pub made_none : (lines : List Line) (caller : ℕ) → MadeTo lines caller [] 0
 made_none lines caller = record {
   fit = λ j note at. absurd (cc);
-  are = record { count = refl; each = λ j note line at is. absurd (cc); by = λ j line is. absurd (cc) };
+  are = record { count = refl; each = λ j note line at is. absurd (cc); by = λ j line is. absurd (cc); order = λ i j x y less at_x at_y. none_some x at_x };
   few = omega arith;
+  below = λ j note at. none_some note at;
 }
 
 one_more : (lines : List Line) (i : ℕ) (line : Line) → i < length lines → line ≡ get_or lines i line → take (i + 1) lines ≡ take i lines ++ line ∷ []
@@ -56,6 +58,7 @@ made_skip lines caller i line notes so below is test = record {
   fit = so.fit;
   are = subst (AreForLines lines caller notes) (sym (by_more lines caller i line false below is test ∙ append_none (lines_by caller (take i lines)))) so.are;
   few = let h = so.few in omega (arith, h);
+  below = λ j note at. let h = so.below j note at in omega (arith, h);
 }
 
 last_get : {A : Type 0} (xs : List A) (z x : A) (i : ℕ) → slice_get (xs ++ z ∷ []) i ≡ Some x → (slice_get xs i ≡ Some x) ⊎ ((i ≡ length xs) × (z ≡ x))
@@ -86,10 +89,24 @@ made_more lines caller i line notes note can so below is test at_line closes roo
     by = λ j l at. ⊎_elim (λ (old : slice_get (lines_by caller (take i lines)) j ≡ Some l). so.are.by j l old)
         (λ (new : (j ≡ length (lines_by caller (take i lines))) × (line ≡ l)). ap (λ (z : Line). z.caller) (sym new.1) ∙ same_number line.caller caller test)
         (last_get (lines_by caller (take i lines)) line l j at);
+    order = λ j k x y less at_x at_y. ⊎_elim
+        (λ (old_y : slice_get notes k ≡ Some y). so.are.order j k x y less (before j x (let h = slice_get_within notes k y old_y in omega (arith, h, less)) at_x) old_y)
+        (λ (new_y : (k ≡ length notes) × (note ≡ y)).
+        let last : y.line ≡ i = ap (λ (n : Note). n.line) (sym new_y.1) ∙ at_line in
+        let first : x.line < i = so.below j x (before j x (let h = new_y.0 in omega (arith, h, less)) at_x) in
+        omega (arith, first, last))
+        (last_get notes note y k at_y);
   });
   few = let h = so.few in let sum = length-append notes (note ∷ []) in omega (arith, h, sum);
+  below = λ j x at. ⊎_elim
+      (λ (old : slice_get notes j ≡ Some x). let h = so.below j x old in omega (arith, h))
+      (λ (new : (j ≡ length notes) × (note ≡ x)). let last : x.line ≡ i = ap (λ (n : Note). n.line) (sym new.1) ∙ at_line in omega (arith, last))
+      (last_get notes note x j at);
 }
   where
+    before : (j : ℕ) (x : Note) → j < length notes → slice_get (notes ++ note ∷ []) j ≡ Some x → slice_get notes j ≡ Some x
+    before j x less at = short_get notes (note ∷ []) j x at less
+
     same_number : (x y : ℕ) → (x == y) ≡ true → x ≡ y
     same_number x y e = grind (arith, e)
 
@@ -118,9 +135,6 @@ other_number x y other = grind (arith, other)
 last_number : (n i : ℕ) → n ≤ i + 1 → i < n → n ≡ i + 1
 last_number n i few more = omega (arith, few, more)
 
-none_is : {A B : Type 0} (x : A) → None ≡ Some x → B
-none_is x e = absurd (cc)
-
 module _ {W B : Type 0} where
   pub record HasRacer (racers : List (Racer W B)) (n : ℕ) : Type 0 where
     pub place : ℕ
@@ -137,7 +151,7 @@ module _ {W B : Type 0} where
 
   pub team_none : (lines : List Line) → (none : List (Racer W B)) → none ≡ [] → TeamTo lines none 0
   team_none lines none is = subst (λ (l : List (Racer W B)). TeamTo lines l 0) (sym is)
-      (record { few = omega arith; each = λ w r at. absurd (cc); apart = λ v w x y at_x at_y same. none_is x at_x; all = λ n some few. absurd (omega (arith, some, few)) })
+      (record { few = omega arith; each = λ w r at. absurd (cc); apart = λ v w x y at_x at_y same. none_some x at_x; all = λ n some few. absurd (omega (arith, some, few)) })
 
   -- a number without lines
   pub team_skip : (lines : List Line) (racers : List (Racer W B)) (i : ℕ) (notes : List Note) → TeamTo lines racers i → AreForLines lines (i + 1) notes (lines_by (i + 1) lines) → length notes ≡ 0

@@ -1,25 +1,24 @@
 -- What is put of notes is the text of the entries that they tell.
-use Rattle.std.proofs.Common.{◌≡◌, ◌<◌, ◌≤◌, ◌+◌, ◌∙◌, ◌||◌, ℕ, zero, suc, List, [], ◌∷◌, ◌++◌, length, take, slice_get, slice_index_or, true, false, Option, Some, None, Result, Ok, Err, IfOk, IfErr, All, refl, sym, ap, subst, arith, append_assoc}
+use Rattle.std.proofs.Common.{◌≡◌, ◌<◌, ◌≤◌, ◌+◌, ◌∙◌, ◌||◌, ℕ, zero, suc, List, [], ◌∷◌, ◌++◌, length, take, slice_get, slice_index_or, true, false, Some, None, Result, Ok, Err, IfOk, IfErr, All, refl, sym, ap, subst, arith, append_assoc}
 use Rattle.std.proofs.lemmas.List.{length-append, take_all}
 use Rattle.std.proofs.lemmas.List.Elements.{All-nil, All-cons, All-head, All-tail}
 use Rattle.std.proofs.lemmas.Option.{slice_get_within, slice_get-get_or}
-use Rattle.nor_io.specs.Files.{Appends, AppendsPart}
+use Rattle.nor_io.specs.Files.{SinkState, Appends, AppendsPart}
 use Rattle.nor_io.specs.declared.sink.SinkError.{SinkError}
 use Rattle.nor_io.proofs.Pieces.{Appends-append, AppendsPart-append, AppendsPart-more}
 use Rattle.nor_array.specs.Array.{ArrayState}
 use Rattle.nor_array.specs.declared.entry.Entry.{Entry}
 use Rattle.nor_array.specs.declared.entry.Op.{Op}
-use Rattle.nor_array.specs.declared.entry.Op.TheVariants.{Read, Program, EraseOpen, Poll, Lock, Unlock, IsLocked, Arm, PowerOn}
+use Rattle.nor_array.specs.declared.entry.Op.TheVariants.{Read, Program, EraseOpen, EraseAll, Poll, Lock, Unlock, IsLocked, Arm, PowerOn}
 use Rattle.nor_array.specs.declared.entry.Reply.{Reply}
 use Rattle.nor_array.specs.declared.entry.Reply.TheVariants.{Done}
 use Rattle.nor_bank.specs.State.{BankState}
 use Rattle.nor_bank.specs.Work.{CanCall}
-use Rattle.nor_script.specs.Puts.{Taken}
 use Rattle.nor_script.specs.Report.{entry_line, entry_lines}
 use Rattle.nor_script.specs.Script.{IsScript, HasCaller}
 use Rattle.nor_script.specs.declared.line.Line.{Line}
 use Rattle.nor_script.specs.declared.line.Word.{Word}
-use Rattle.nor_script.specs.declared.line.Word.TheVariants.{Call, Erase}
+use Rattle.nor_script.specs.declared.line.Word.TheVariants.{Call, Erase, EraseAll as EraseAllLine}
 use Rattle.nor_driver.specs.Callers.{Gives}
 use Rattle.nor_driver.specs.Fronts.{entries_of}
 use Rattle.nor_run.specs.Built.{is_built_word, are_built}
@@ -82,27 +81,40 @@ line_there lines notes k note history at =
 at_index : (lines : List Line) (k : ℕ) (line : Line) → k < length lines → line ≡ slice_index_or lines k line → slice_get lines k ≡ Some line
 at_index lines k line below is = slice_get-get_or lines k line below ∙ ap (λ (l : Line). Some l) (sym is)
 
--- no note tells of an erase
+-- a note tells of a line that is one call
+told_call : (lines : List Line) (notes : List Note) (k : ℕ) (note : Note) (line : Line) → HasHistory lines notes → slice_get notes k ≡ Some note
+    → line ≡ slice_index_or lines note.line line → (op : Op) × (line.word ≡ Call op)
+told_call lines notes k note line history at is =
+    let told = tells_at lines notes history.entries k note history.are at in
+    let there = at_index lines note.line line (line_there lines notes k note history at) is in
+    let same : line ≡ told.1.line = same_some (sym there ∙ told.1.at) in
+    (told.0.item.op, ap (λ (l : Line). l.word) same ∙ told.1.word)
+
 pub no_erase : (lines : List Line) (notes : List Note) (k : ℕ) (note : Note) (line : Line) (block : ℕ) → HasHistory lines notes → slice_get notes k ≡ Some note
     → line ≡ slice_index_or lines note.line line → line.word ≡ Erase block → ⊥
 no_erase lines notes k note line block history at is word =
-    let tells = (tells_at lines notes history.entries k note history.are at).1 in
-    let there = at_index lines note.line line (line_there lines notes k note history at) is in
-    let same : line ≡ tells.line = same_some (sym there ∙ tells.at) in
-    let both : Call (tells_at lines notes history.entries k note history.are at).0.item.op ≡ Erase block = sym tells.word ∙ (sym (ap (λ (l : Line). l.word) same) ∙ word) in
+    let told = told_call lines notes k note line history at is in
+    let both : Call told.0 ≡ Erase block = sym told.1 ∙ word in
+    cc
+
+pub no_erase_all : (lines : List Line) (notes : List Note) (k : ℕ) (note : Note) (line : Line) → HasHistory lines notes → slice_get notes k ≡ Some note
+    → line ≡ slice_index_or lines note.line line → line.word ≡ EraseAllLine → ⊥
+no_erase_all lines notes k note line history at is word =
+    let told = told_call lines notes k note line history at is in
+    let both : Call told.0 ≡ EraseAllLine = sym told.1 ∙ word in
     cc
 
 -- what is put of a note is put of its entry
-pub note_put : (lines : List Line) (notes : List Note) (k : ℕ) (note : Note) (line : Line) (op : Op) (bytes : List ℕ) (reply : Reply) (taken : Taken) (result : Result Reply SinkError) (es : List Entry) (e : Entry)
+pub note_put : (lines : List Line) (notes : List Note) (k : ℕ) (note : Note) (line : Line) (op : Op) (bytes : List ℕ) (reply : Reply) (before after : SinkState) (result : Result Reply SinkError) (es : List Entry) (e : Entry)
     → HasHistory lines notes → slice_get notes k ≡ Some note → line ≡ slice_index_or lines note.line line → line.word ≡ Call op → bytes ≡ note.bytes.items
-    → PutsReply (entry_line k line.caller op note.reply bytes) note.reply taken result
-    → AreTold lines notes es → slice_get es k ≡ Some e → PutsReply (line_of_entry k e) e.reply taken result
-note_put lines notes k note line op bytes reply taken result es e history at is word same puts told entry =
+    → PutsReply (entry_line k line.caller op note.reply bytes) note.reply before after result
+    → AreTold lines notes es → slice_get es k ≡ Some e → PutsReply (line_of_entry k e) e.reply before after result
+note_put lines notes k note line op bytes reply before after result es e history at is word same puts told entry =
     let tells = told.told k note e at entry in
     let there = at_index lines note.line line (line_there lines notes k note history at) is in
     let text = ap (λ (xs : List ℕ). entry_line k line.caller op note.reply xs) same ∙ told_line lines note e k line op tells there word in
-    subst (λ (t : List ℕ). PutsReply t e.reply taken result) text
-    (subst (λ (r : Reply). PutsReply (entry_line k line.caller op note.reply bytes) r taken result) (sym tells.reply) puts)
+    subst (λ (t : List ℕ). PutsReply t e.reply before after result) text
+    (subst (λ (r : Reply). PutsReply (entry_line k line.caller op note.reply bytes) r before after result) (sym tells.reply) puts)
 
 -- ---- one entry more
 
@@ -116,19 +128,19 @@ count_taken es zero below = refl
 count_taken [] (suc k) below = absurd (omega arith)
 count_taken (x ∷ es) (suc k) below = let rest = count_taken es k (omega arith) in omega arith
 
-pub none_put : (es : List Entry) (before : Option (List ℕ)) → PutsAll (take 0 es) before before (record { entries = 0; halted = false })
-none_put es before = record { text = nothing_put before; entries = refl; halted = refl }
+pub none_put : (es : List Entry) (before : SinkState) → PutsAll (take 0 es) before before (record { entries = 0; halted = false })
+none_put es before = record { text = nothing_put before.taken; entries = refl; halted = refl }
 
-pub entry_put : (es : List Entry) (k : ℕ) (e : Entry) (before mid after : Option (List ℕ)) (f g : ℕ) (ran : Ran) (reply : Reply) → slice_get es k ≡ Some e → PutsAll (take k es) before mid ran
-    → PutsReply (line_of_entry k e) e.reply (record { before = mid; after = after; faults_before = f; faults_after = g }) (Ok reply)
+pub entry_put : (es : List Entry) (k : ℕ) (e : Entry) (before mid after : SinkState) (ran : Ran) (reply : Reply) → slice_get es k ≡ Some e → PutsAll (take k es) before mid ran
+    → PutsReply (line_of_entry k e) e.reply mid after (Ok reply)
     → PutsAll (take (k + 1) es) before after (record { entries = ran.entries + 1; halted = ran.halted || is_halt reply })
-entry_put es k e before mid after f g ran reply at so puts =
+entry_put es k e before mid after ran reply at so puts =
     let within : k < length es = slice_get_within es k e at in
     let count : length (take k es) ≡ k = count_taken es k (omega arith) in
     let next : take (k + 1) es ≡ take k es ++ e ∷ [] = (let one : k + 1 ≡ suc k = omega arith in ap (λ (n : ℕ). take n es) one) ∙ take_next es k e at in
     subst (λ (ys : List Entry). PutsAll ys before after (record { entries = ran.entries + 1; halted = ran.halted || is_halt reply })) (sym next) (record {
-      text = subst (λ (t : List ℕ). Appends before t after) (sym (text_more (take k es) e k (sym count)))
-          (Appends-append before mid after (entry_lines 0 (take k es)) (line_of_entry k e) so.text puts.1);
+      text = subst (λ (t : List ℕ). Appends before.taken t after.taken) (sym (text_more (take k es) e k (sym count)))
+          (Appends-append before.taken mid.taken after.taken (entry_lines 0 (take k es)) (line_of_entry k e) so.text puts.1);
       entries = ap (λ (n : ℕ). n + 1) so.entries ∙ sym (length-append (take k es) (e ∷ []));
       halted = (λ i. so.halted i || is_halt (puts.0 i)) ∙ sym (halt_last (take k es) e);
     })
@@ -146,27 +158,27 @@ splits p zero (x ∷ es) e at =
 splits p (suc k) (x ∷ es) e at =
     let rest = splits (p + 1) k es e at in
     let first = line_of_entry p x in
-    let taken = entry_lines (p + 1) (take k es) in
+    let others = entry_lines (p + 1) (take k es) in
     let place : p + 1 + k ≡ p + suc k = omega arith in
     record {
       rest = rest.rest;
       whole = ap (λ (t : List ℕ). first ++ t) rest.whole
-          ∙ (sym (append_assoc first (taken ++ line_of_entry (p + 1 + k) e) rest.rest)
-          ∙ (ap (λ (t : List ℕ). t ++ rest.rest) (sym (append_assoc first taken (line_of_entry (p + 1 + k) e)))
-          ∙ ap (λ (n : ℕ). ((first ++ taken) ++ line_of_entry n e) ++ rest.rest) place));
+          ∙ (sym (append_assoc first (others ++ line_of_entry (p + 1 + k) e) rest.rest)
+          ∙ (ap (λ (t : List ℕ). t ++ rest.rest) (sym (append_assoc first others (line_of_entry (p + 1 + k) e)))
+          ∙ ap (λ (n : ℕ). ((first ++ others) ++ line_of_entry n e) ++ rest.rest) place));
     }
 
-pub part_of_entries : (es : List Entry) (k : ℕ) (e : Entry) (before mid after : Option (List ℕ)) (f g : ℕ) (ran : Ran) (error : SinkError) → slice_get es k ≡ Some e → PutsAll (take k es) before mid ran
-    → PutsReply (line_of_entry k e) e.reply (record { before = mid; after = after; faults_before = f; faults_after = g }) (Err error) → PutsSome es before after
-part_of_entries es k e before mid after f g ran error at so puts =
+pub part_of_entries : (es : List Entry) (k : ℕ) (e : Entry) (before mid after : SinkState) (ran : Ran) (error : SinkError) → slice_get es k ≡ Some e → PutsAll (take k es) before mid ran
+    → PutsReply (line_of_entry k e) e.reply mid after (Err error) → PutsSome es before after
+part_of_entries es k e before mid after ran error at so puts =
     let all = splits 0 k es e at in
     let zero_first : 0 + k ≡ k = omega arith in
-    let part : AppendsPart mid (line_of_entry k e) after = part_put (line_of_entry k e) e.reply (record { before = mid; after = after; faults_before = f; faults_after = g }) error puts in
-    let here = AppendsPart-append before mid after (entry_lines 0 (take k es)) (line_of_entry (0 + k) e) so.text (subst (λ (n : ℕ). AppendsPart mid (line_of_entry n e) after) (sym zero_first) part) in
-    subst (λ (t : List ℕ). AppendsPart before t after) (sym all.whole)
-    (AppendsPart-more before after (entry_lines 0 (take k es) ++ line_of_entry (0 + k) e) all.rest here)
+    let part : AppendsPart mid.taken (line_of_entry k e) after.taken = part_put (line_of_entry k e) e.reply mid after error puts in
+    let here = AppendsPart-append before.taken mid.taken after.taken (entry_lines 0 (take k es)) (line_of_entry (0 + k) e) so.text (subst (λ (n : ℕ). AppendsPart mid.taken (line_of_entry n e) after.taken) (sym zero_first) part) in
+    subst (λ (t : List ℕ). AppendsPart before.taken t after.taken) (sym all.whole)
+    (AppendsPart-more before.taken after.taken (entry_lines 0 (take k es) ++ line_of_entry (0 + k) e) all.rest here)
 
-pub all_put : (es : List Entry) (n : ℕ) (before after : Option (List ℕ)) (ran : Ran) → length es ≤ n → PutsAll (take n es) before after ran → PutsAll es before after ran
+pub all_put : (es : List Entry) (n : ℕ) (before after : SinkState) (ran : Ran) → length es ≤ n → PutsAll (take n es) before after ran → PutsAll es before after ran
 all_put es n before after ran all so = subst (λ (ys : List Entry). PutsAll ys before after ran) (take_all n es all) so
 
 -- ---- what can be raced
@@ -178,6 +190,7 @@ line_races : (line : Line) (word : Word) → line.word ≡ word → HasCaller wo
 line_races line (Call (Read at len)) is has built = record { op = Read at len; word = is; raced = refl; least = has.0; most = has.1 }
 line_races line (Call (Program at new)) is has built = record { op = Program at new; word = is; raced = refl; least = has.0; most = has.1 }
 line_races line (Call (EraseOpen b)) is has built = absurd (false_true built)
+line_races line (Call EraseAll) is has built = absurd (false_true built)
 line_races line (Call Poll) is has built = absurd (false_true built)
 line_races line (Call (Lock b)) is has built = absurd (false_true built)
 line_races line (Call (Unlock b)) is has built = absurd (false_true built)
@@ -185,6 +198,7 @@ line_races line (Call (IsLocked b)) is has built = absurd (false_true built)
 line_races line (Call (Arm cut mask)) is has built = absurd (false_true built)
 line_races line (Call PowerOn) is has built = absurd (false_true built)
 line_races line (Erase b) is has built = absurd (false_true built)
+line_races line EraseAllLine is has built = absurd (false_true built)
 
 lines_race : (lines : List Line) → All (λ line. HasCaller line.word line.caller) lines → are_built lines ≡ true → All CanRaceLine lines
 lines_race [] callers built = All-nil CanRaceLine
@@ -206,11 +220,11 @@ history_of lines old new notes a races can =
     let so = races.stands.each a can in
     record { legal = so.legal; answers = races.answers; stands = so.can.stands; lasts = so.lasts }
 
-raced_so : (lines : List Line) (old new : BankState) (notes : List Note) (a : ArrayState) (taken : Taken) (ran : Result Ran SinkError) → Races lines old new notes → CanCall old a
-    → IfOk ran (λ r. (es : List Entry) → AreTold lines notes es → PutsAll es taken.before taken.after r)
-    → IfErr ran (λ e. (es : List Entry) → AreTold lines notes es → PutsSome es taken.before taken.after)
-    → RunsLines true lines old new a taken (of_put ran)
-raced_so lines old new notes a taken (Ok r) races can whole part =
+raced_so : (lines : List Line) (old new : BankState) (notes : List Note) (a : ArrayState) (before after : SinkState) (ran : Result Ran SinkError) → Races lines old new notes → CanCall old a
+    → IfOk ran (λ r. (es : List Entry) → AreTold lines notes es → PutsAll es before after r)
+    → IfErr ran (λ e. (es : List Entry) → AreTold lines notes es → PutsSome es before after)
+    → RunsLines true lines old new a before after (of_put ran)
+raced_so lines old new notes a before after (Ok r) races can whole part =
     let put = whole (entries_of races.front) (told_of_race lines old new notes races) in
     record {
       history = entries_of races.front;
@@ -219,7 +233,7 @@ raced_so lines old new notes a taken (Ok r) races can whole part =
       entries = put.entries;
       halted = put.halted;
     }
-raced_so lines old new notes a taken (Err e) races can whole part = record {
+raced_so lines old new notes a before after (Err e) races can whole part = record {
   history = entries_of races.front;
   count = length lines;
   all = refl;
@@ -227,13 +241,13 @@ raced_so lines old new notes a taken (Err e) races can whole part = record {
   text = part (entries_of races.front) (told_of_race lines old new notes races);
 }
 
-pub raced_runs : (lines ls : List Line) (old new : BankState) (notes : List Note) (a : ArrayState) (taken : Taken) (ran : Result Ran SinkError) (result : Result Ran RunError)
+pub raced_runs : (lines ls : List Line) (old new : BankState) (notes : List Note) (a : ArrayState) (before after : SinkState) (ran : Result Ran SinkError) (result : Result Ran RunError)
     → ls ≡ lines → Races lines old new notes → CanCall old a → result ≡ of_put ran
-    → IfOk ran (λ r. (es : List Entry) → AreTold ls notes es → PutsAll es taken.before taken.after r)
-    → IfErr ran (λ e. (es : List Entry) → AreTold ls notes es → PutsSome es taken.before taken.after)
-    → RunsLines true lines old new a taken result
-raced_runs lines ls old new notes a taken ran result same races can put whole part =
-    subst (λ (r : Result Ran RunError). RunsLines true lines old new a taken r) (sym put)
-    (raced_so lines old new notes a taken ran races can
-    (subst (λ (xs : List Line). IfOk ran (λ r. (es : List Entry) → AreTold xs notes es → PutsAll es taken.before taken.after r)) same whole)
-    (subst (λ (xs : List Line). IfErr ran (λ e. (es : List Entry) → AreTold xs notes es → PutsSome es taken.before taken.after)) same part))
+    → IfOk ran (λ r. (es : List Entry) → AreTold ls notes es → PutsAll es before after r)
+    → IfErr ran (λ e. (es : List Entry) → AreTold ls notes es → PutsSome es before after)
+    → RunsLines true lines old new a before after result
+raced_runs lines ls old new notes a before after ran result same races can put whole part =
+    subst (λ (r : Result Ran RunError). RunsLines true lines old new a before after r) (sym put)
+    (raced_so lines old new notes a before after ran races can
+    (subst (λ (xs : List Line). IfOk ran (λ r. (es : List Entry) → AreTold xs notes es → PutsAll es before after r)) same whole)
+    (subst (λ (xs : List Line). IfErr ran (λ e. (es : List Entry) → AreTold xs notes es → PutsSome es before after)) same part))

@@ -1,5 +1,5 @@
 -- Notes put at their places.
-use Rattle.std.proofs.Common.{◌≡◌, ◌<◌, ◌≤◌, ◌+◌, ◌-◌, ◌∙◌, ◌⊎◌, inl, inr, ⊎_elim, ◌++◌, ◌∷◌, ℕ, zero, suc, List, [], length, min, Option, Some, None, refl, sym, ap, subst, arith, append_assoc, slice_set, slice_index_or}
+use Rattle.std.proofs.Common.{◌≡◌, ◌<◌, ◌≤◌, ◌+◌, ◌-◌, ◌∙◌, ◌⊎◌, inl, inr, ⊎_elim, ◌++◌, ◌∷◌, ℕ, zero, suc, List, [], length, min, Some, refl, sym, ap, subst, arith, append_assoc, slice_set, slice_index_or}
 use Rattle.std.specs.Prelude.{slice_get, All}
 use Rattle.std.proofs.lemmas.Bool.{cases_lt}
 use Rattle.std.proofs.lemmas.Option.{slice_get_within, slice_get-get_or}
@@ -13,16 +13,10 @@ use Rattle.nor_race.specs.Ran.{Ran, HasNote, TellsIn}
 use Rattle.nor_race.specs.Teams.{notes_of}
 use Rattle.nor_race.specs.declared.note.Note.{Note}
 use Rattle.nor_race.specs.declared.team.Racer.{Racer}
-use Rattle.nor_race.proofs.Joining.{prefix_get, short_get, rest_get, later_get, all_get}
+use Rattle.nor_race.proofs.Joining.{none_some, one_some, prefix_get, short_get, rest_get, later_get, all_get}
 use Rattle.nor_race.proofs.Working.{set_same, set_other, size_set}
 
 -- ---- one of several lists
-
-nothing : {A B : Type 0} (x : A) → None ≡ Some x → B
-nothing x e = absurd (cc)
-
-some_is : {A : Type 0} (x y : A) (o : Option A) → o ≡ Some x → o ≡ Some y → x ≡ y
-some_is x y o a b = cc
 
 pub some_there : {A : Type 0} (xs : List A) (k : ℕ) → k < length xs → (x : A) × (slice_get xs k ≡ Some x)
 some_there [] k below = absurd (omega arith)
@@ -42,19 +36,19 @@ in_either xs ys x one = ⊎_elim
     (cases_lt one.0 (length xs))
 
 pub in_all : (teams : List (List Note)) (w : ℕ) (notes : List Note) (x : Note) → slice_get teams w ≡ Some notes → IsOneOf notes x → IsOneOf (all_of teams) x
-in_all [] w notes x at one = nothing notes at
+in_all [] w notes x at one = none_some notes at
 in_all (t ∷ teams) zero notes x at one = let same : t ≡ notes = cc in in_left t (all_of teams) x (subst (λ (l : List Note). IsOneOf l x) (sym same) one)
 in_all (t ∷ teams) (suc w) notes x at one = in_right t (all_of teams) x (in_all teams w notes x at one)
 
 -- a worker that has the note
-record IsWorkersOf (teams : List (List Note)) (x : Note) : Type 0 where
-  worker : ℕ
-  notes : List Note
-  at : slice_get teams worker ≡ Some notes
-  one : IsOneOf notes x
+pub record IsWorkersOf (teams : List (List Note)) (x : Note) : Type 0 where
+  pub worker : ℕ
+  pub notes : List Note
+  pub at : slice_get teams worker ≡ Some notes
+  pub one : IsOneOf notes x
 
 of_all : (teams : List (List Note)) (x : Note) → IsOneOf (all_of teams) x → IsWorkersOf teams x
-of_all [] x one = nothing x one.1
+of_all [] x one = none_some x one.1
 of_all (t ∷ teams) x one = ⊎_elim
     (λ (here : IsOneOf t x). record { worker = 0; notes = t; at = refl; one = here })
     (λ (later : IsOneOf (all_of teams) x). let has = of_all teams x later in record { worker = suc has.worker; notes = has.notes; at = has.at; one = has.one })
@@ -63,14 +57,14 @@ of_all (t ∷ teams) x one = ⊎_elim
 -- ---- notes put at their places
 
 pub placed_none : (table : List Note) → Placed [] table table
-placed_none table = record { size = refl; put = λ note one. nothing note one.1; each = λ place note at. inl at }
+placed_none table = record { size = refl; put = λ note one. none_some note one.1; each = λ place note at. inl at }
 
 only_one : (x y : Note) → IsOneOf (x ∷ []) y → x ≡ y
 only_one x y one = by_place one.0 one.1
   where
     by_place : (j : ℕ) → slice_get (x ∷ []) j ≡ Some y → x ≡ y
     by_place zero at = cc
-    by_place (suc j) at = nothing y at
+    by_place (suc j) at = none_some y at
 
 pub placed_one : (table : List Note) (x : Note) → x.position < length table → Placed (x ∷ []) table (slice_set table x.position x)
 placed_one table x within = record {
@@ -85,7 +79,7 @@ placed_one table x within = record {
       (λ (more : x.position < place). inl (sym (set_other table x.position place x (inr more)) ∙ at))
       (λ (short : place ≤ x.position).
       let here : place ≡ x.position = omega (arith, long, short) in
-      let same : x ≡ note = some_is x note (slice_get (slice_set table x.position x) x.position) (set_same table x.position x within) (ap (slice_get (slice_set table x.position x)) (sym here) ∙ at) in
+      let same : x ≡ note = one_some x note (slice_get (slice_set table x.position x) x.position) (set_same table x.position x within) (ap (slice_get (slice_set table x.position x)) (sym here) ∙ at) in
       inr ((0, ap (λ (n : Note). Some n) same), ap (λ (n : Note). n.position) (sym same) ∙ sym here))
       (cases_lt x.position place))
       (cases_lt place x.position);
@@ -115,7 +109,7 @@ placed_then xs ys t u v one two = record {
         let at = slice_get-get_or v note.position p.0 within in
         ⊎_elim
         (λ (same : slice_get u note.position ≡ Some now).
-        let equal : p.0 ≡ now = some_is p.0 now (slice_get u note.position) p.1 same in
+        let equal : p.0 ≡ now = one_some p.0 now (slice_get u note.position) p.1 same in
         (p.0, at ∙ ap (λ (n : Note). Some n) (sym equal), in_right ys xs p.0 p.2, p.3))
         (λ (put : IsOneOf ys now × (now.position ≡ note.position)). (now, at, in_left ys xs now put.0, put.1))
         (two.each note.position now at)
@@ -168,7 +162,7 @@ module _ {W B : Type 0} where
   put_no_racer start table = record { done = []; parts = sym (append_none start); placed = placed_none table }
 
   notes_at : (racers : List (Racer W B)) (w : ℕ) (r : Racer W B) → slice_get racers w ≡ Some r → slice_get (notes_of racers) w ≡ Some r.notes.items
-  notes_at [] w r at = nothing r at
+  notes_at [] w r at = none_some r at
   notes_at (z ∷ racers) zero r at = let same : z ≡ r = cc in ap (λ (q : Racer W B). Some q.notes.items) same
   notes_at (z ∷ racers) (suc w) r at = notes_at racers w r at
 
@@ -210,9 +204,9 @@ below_up n [] = omega arith
 below_up n (x ∷ notes) = let h = below_up n notes in omega (arith, h)
 
 below_more : (n : ℕ) (notes : List Note) (j : ℕ) (x : Note) → slice_get notes j ≡ Some x → x.position ≡ n → below n notes + 1 ≤ below (suc n) notes
-below_more n [] j x at is = nothing x at
+below_more n [] j x at is = none_some x at
 below_more n (z ∷ notes) zero x at is =
-    let same : z.position ≡ x.position = ap (λ (y : Note). y.position) (some_is z x (Some z) refl at) in
+    let same : z.position ≡ x.position = ap (λ (y : Note). y.position) (one_some z x (Some z) refl at) in
     let h = below_up n notes in
     omega (arith, same, is, h)
 below_more n (z ∷ notes) (suc j) x at is = let h = below_more n notes j x at is in omega (arith, h)
@@ -246,19 +240,29 @@ all_within lines teams p n ran few = λ k d less.
     let place = slice_get_within p.seen x.position tell.pair tell.at in
     omega (arith, place, few)
 
+-- The note at this place is one of a worker's, and the place is its position.
+pub record IsPut (teams : List (List Note)) (k : ℕ) (note : Note) : Type 0 where
+  pub whose : IsWorkersOf teams note
+  pub position : note.position ≡ k
+
+pub is_put : (lines : List Line) (teams : List (List Note)) (p : PassView BankState Entry) (old new : List Note) (k : ℕ) (note : Note) → Ran lines teams p → All (λ pair. Owns p pair.0) p.seen
+    → Placed (all_of teams) old new → slice_get new k ≡ Some note → k < length p.seen → IsPut teams k note
+is_put lines teams p old new k note ran owned placed at below =
+    let pair = some_there p.seen k below in
+    let has = ran.own k pair.0 pair.1 (all_get (λ (q : Name × Entry). Owns p q.0) p.seen owned k pair.0 pair.1) in
+    let mark = placed.put has.has.note (in_all teams has.worker has.notes has.has.note has.at (has.has.index, has.has.at)) in
+    record {
+      whose = of_all teams note (subst (IsOneOf (all_of teams)) (same mark.0 has.has.note mark.1 has.has.position) mark.2);
+      position = ap (λ (n : Note). n.position) (sym (same mark.0 has.has.note mark.1 has.has.position)) ∙ (mark.3 ∙ has.has.position);
+    }
+  where
+    same : (x y : Note) → slice_get new y.position ≡ Some x → y.position ≡ k → x ≡ note
+    same x y at_x is = one_some x note (slice_get new k) (ap (slice_get new) (sym is) ∙ at_x) at
+
 -- the note that stands at a place tells the entry there
 pub told_there : (lines : List Line) (teams : List (List Note)) (p : PassView BankState Entry) (old new : List Note) (k : ℕ) (note : Note) (pair : Name × Entry) → Ran lines teams p → All (λ pair. Owns p pair.0) p.seen
     → Placed (all_of teams) old new → slice_get new k ≡ Some note → slice_get p.seen k ≡ Some pair → (t : TellsIn lines note p.seen) × (t.pair ≡ pair)
 told_there lines teams p old new k note pair ran owned placed at there =
-    let has = ran.own k pair there (all_get (λ (q : Name × Entry). Owns p q.0) p.seen owned k pair there) in
-    let mark = placed.put has.has.note (in_all teams has.worker has.notes has.has.note has.at (has.has.index, has.has.at)) in
-    let place : note.position ≡ k = placed_at mark.0 has.has.note mark.1 mark.3 has.has.position in
-    let whose = of_all teams note (subst (IsOneOf (all_of teams)) (same mark.0 has.has.note mark.1 has.has.position) mark.2) in
-    let tell = (ran.told whose.worker whose.notes whose.at).each whose.one.0 note whose.one.1 in
-    (tell, some_is tell.pair pair (slice_get p.seen k) (ap (slice_get p.seen) (sym place) ∙ tell.at) there)
-  where
-    same : (x y : Note) → slice_get new y.position ≡ Some x → y.position ≡ k → x ≡ note
-    same x y at_x is = some_is x note (slice_get new k) (ap (slice_get new) (sym is) ∙ at_x) at
-
-    placed_at : (x y : Note) → slice_get new y.position ≡ Some x → x.position ≡ y.position → y.position ≡ k → note.position ≡ k
-    placed_at x y at_x equal is = ap (λ (n : Note). n.position) (sym (same x y at_x is)) ∙ (equal ∙ is)
+    let put = is_put lines teams p old new k note ran owned placed at (slice_get_within p.seen k pair there) in
+    let tell = (ran.told put.whose.worker put.whose.notes put.whose.at).each put.whose.one.0 note put.whose.one.1 in
+    (tell, one_some tell.pair pair (slice_get p.seen k) (ap (slice_get p.seen) (sym put.position) ∙ tell.at) there)

@@ -1,5 +1,5 @@
 -- A team that has run its lines.
-use Rattle.std.proofs.Common.{◌≡◌, ◌<◌, ◌≤◌, ◌+◌, ◌^◌, ◌∙◌, ◌++◌, ◌∷◌, ℕ, zero, suc, List, [], length, map, take, Option, Some, None, refl, sym, ap, subst, arith, slice_index_or}
+use Rattle.std.proofs.Common.{◌≡◌, ◌<◌, ◌≤◌, ◌+◌, ◌^◌, ◌∙◌, ◌++◌, ◌∷◌, ℕ, zero, suc, List, [], length, map, take, Option, Some, refl, sym, ap, subst, arith, slice_index_or}
 use Rattle.std.specs.Prelude.{slice_get, All}
 use Rattle.std.specs.Option.{option_map_or}
 use Rattle.std.proofs.lemmas.Option.{slice_get_within, slice_get-get_or}
@@ -19,15 +19,9 @@ use Rattle.nor_race.specs.Teams.{CanRace, HasRaced, EachRaced, CanFold, notes_of
 use Rattle.nor_race.specs.Races.{Races}
 use Rattle.nor_race.specs.declared.note.Note.{Note}
 use Rattle.nor_race.specs.declared.team.Racer.{Racer}
-use Rattle.nor_race.proofs.Joining.{all_get}
-use Rattle.nor_race.proofs.Answering.{teams_answer}
-use Rattle.nor_race.proofs.Putting.{told_there}
-
-none_is : {A B : Type 0} (x : A) → None ≡ Some x → B
-none_is x e = absurd (cc)
-
-some_is : {A : Type 0} (a b : A) (o : Option A) → o ≡ Some a → o ≡ Some b → a ≡ b
-some_is a b o p q = cc
+use Rattle.nor_race.proofs.Joining.{none_some, one_some, all_get}
+use Rattle.nor_race.proofs.Answering.{teams_answer, note_order}
+use Rattle.nor_race.proofs.Putting.{told_there, is_put, IsPut}
 
 -- one worker that ran all its lines
 pub one_ran : (lines : List Line) (notes : List Note) (p : PassView BankState Entry) → RanTo lines notes (length notes) p → Ran lines (notes ∷ []) p
@@ -60,17 +54,27 @@ size_lines (z ∷ notes) = ap suc (size_lines notes)
 for_lines : (lines : List Line) (caller : ℕ) (old new : List Note) (told : List Line) → map (λ (x : Note). x.line) new ≡ map (λ (x : Note). x.line) old → AreForLines lines caller old told → AreForLines lines caller new told
 for_lines lines caller old new told same are = record {
   count = are.count ∙ sym sizes;
-  each = λ j note line at is.
-      let below : j < length old = let h = slice_get_within new j note at in omega (arith, h, sizes) in
-      let before : Note = slice_index_or old j note in
-      let at_before = slice_get-get_or old j note below in
-      let equal : note.line ≡ before.line = some_is note.line before.line (slice_get (map (λ (x : Note). x.line) new) j) (line_at new j note at) (ap (λ (l : List ℕ). slice_get l j) same ∙ line_at old j before at_before) in
-      ap (slice_get lines) equal ∙ are.each j before line at_before is;
+  each = λ j note line at is. let was = before j note at in ap (slice_get lines) was.2 ∙ are.each j was.0 line was.1 is;
   by = are.by;
+  order = λ i j x y less at_x at_y.
+      let a = before i x at_x in
+      let b = before j y at_y in
+      let h = are.order i j a.0 b.0 less a.1 b.1 in
+      let p = a.2 in
+      let q = b.2 in
+      omega (arith, h, p, q);
 }
   where
     sizes : length new ≡ length old
     sizes = sym (size_lines new) ∙ (ap length same ∙ size_lines old)
+
+    -- the note that stood at this place
+    before : (j : ℕ) (note : Note) → slice_get new j ≡ Some note → (was : Note) × (slice_get old j ≡ Some was) × (note.line ≡ was.line)
+    before j note at =
+        let below : j < length old = let h = slice_get_within new j note at in omega (arith, h, sizes) in
+        let was : Note = slice_index_or old j note in
+        let at_was = slice_get-get_or old j note below in
+        (was, at_was, one_some note.line was.line (slice_get (map (λ (x : Note). x.line) new) j) (line_at new j note at) (ap (λ (l : List ℕ). slice_get l j) same ∙ line_at old j was at_was))
 
 module _ {W B : Type 0} where
   pub can_fold : (lines : List Line) (driver : DriverView) (old new : List (Racer W B)) → All (CanRace lines driver) old → EachRaced lines old new → All (CanFold lines driver) new
@@ -82,7 +86,7 @@ module _ {W B : Type 0} where
       let at_x = slice_get-get_or old k d there in
       let has = raced.each k x y at_x at_y in
       let was = all_get (CanRace lines driver) old can k x at_x in
-      let who : was.who ≡ has.was = some_is was.who has.was x.caller was.is has.was_is in
+      let who : was.who ≡ has.was = one_some was.who has.was x.caller was.is has.was_is in
       let own : IsCallerOf driver has.was = subst (IsCallerOf driver) who was.own in
       record {
         who = has.who;
@@ -180,6 +184,14 @@ races lines old new before teams callers p start table entries team keeps ran st
       let pair = pair_at p.seen k e there in
       let t = told_there lines teams p start table k note pair.0 ran owned placed (take_get entries table k note at) pair.1 in
       subst (Tells lines note) (ap (λ (q : Name × Entry). q.1) t.1 ∙ pair.2) t.0.tells;
+  position = λ k note at. (put k note at).position;
+  order = λ i j x y a b less at_x at_y is_a is_b one.
+      let first = put i x at_x in
+      let later = put j y at_y in
+      let low = first.position in
+      let high = later.position in
+      note_order lines teams callers p (keeps.team callers team) ran owned first.whose.worker later.whose.worker first.whose.one.0 later.whose.one.0 first.whose.notes later.whose.notes x y a b
+      first.whose.at later.whose.at first.whose.one.1 later.whose.one.1 (omega (arith, low, high, less)) is_a is_b one;
 }
   where
     size_take : {A : Type 0} (n : ℕ) (xs : List A) → n ≤ length xs → length (take n xs) ≡ n
@@ -188,17 +200,25 @@ races lines old new before teams callers p start table entries team keeps ran st
     size_take (suc n) (x ∷ xs) few = ap suc (size_take n xs (omega (arith, few)))
 
     take_get : {A : Type 0} (n : ℕ) (xs : List A) (k : ℕ) (x : A) → slice_get (take n xs) k ≡ Some x → slice_get xs k ≡ Some x
-    take_get zero xs k x at = none_is x at
-    take_get (suc n) [] k x at = none_is x at
+    take_get zero xs k x at = none_some x at
+    take_get (suc n) [] k x at = none_some x at
     take_get (suc n) (y ∷ xs) zero x at = at
     take_get (suc n) (y ∷ xs) (suc k) x at = take_get n xs k x at
+
+    put : (k : ℕ) (note : Note) → slice_get (take entries table) k ≡ Some note → IsPut teams k note
+    put k note at =
+        let below : k < length p.seen =
+        let h = slice_get_within (take entries table) k note at in
+        let s = size_take entries table (let z = placed.size in omega (arith, enough, z)) in
+        omega (arith, h, s, count) in
+        is_put lines teams p start table k note ran owned placed (take_get entries table k note at) below
 
     size_entries : (front : Front Entry) → length (entries_of front) ≡ length front
     size_entries [] = refl
     size_entries (q ∷ front) = ap suc (size_entries front)
 
     pair_at : (front : Front Entry) (k : ℕ) (e : Entry) → slice_get (entries_of front) k ≡ Some e → (pair : Name × Entry) × (slice_get front k ≡ Some pair) × (pair.1 ≡ e)
-    pair_at [] k e at = none_is e at
+    pair_at [] k e at = none_some e at
     pair_at (q ∷ front) zero e at = (q, refl, (let same : q.1 ≡ e = cc in same))
     pair_at (q ∷ front) (suc k) e at = pair_at front k e at
 

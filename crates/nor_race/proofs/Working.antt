@@ -1,5 +1,5 @@
 -- One line more of a worker.
-use Rattle.std.proofs.Common.{◌≡◌, ◌<◌, ◌≤◌, ◌+◌, ◌-◌, ◌∙◌, ◌⊎◌, inl, inr, ⊎_elim, ◌++◌, ◌∷◌, ℕ, zero, suc, List, [], length, Option, Some, None, refl, sym, ap, subst, arith, slice_set, get_or, map}
+use Rattle.std.proofs.Common.{◌≡◌, ◌<◌, ◌≤◌, ◌+◌, ◌-◌, ◌∙◌, ◌⊎◌, inl, inr, ⊎_elim, ◌++◌, ◌∷◌, ℕ, zero, suc, List, [], length, Some, None, refl, sym, ap, subst, arith, slice_set, get_or, map}
 use Rattle.std.specs.Prelude.{slice_get, Contains}
 use Rattle.std.proofs.lemmas.Bool.{cases_lt}
 use Rattle.std.proofs.lemmas.Option.{slice_get_within}
@@ -14,7 +14,7 @@ use Rattle.nor_script.specs.declared.line.Word.TheVariants.{Call}
 use Rattle.nor_driver.specs.Callers.{DriverView, IsCallerOf, CallerView, Gives, Adds, WentOn}
 use Rattle.nor_race.specs.Ran.{TellsIn, HasFirst, RanTo, RunsLine, IsFor}
 use Rattle.nor_race.specs.declared.note.Note.{Note}
-use Rattle.nor_race.proofs.Joining.{prefix_get, short_get, rest_get, later_get, all_get}
+use Rattle.nor_race.proofs.Joining.{one_some, prefix_get, short_get, rest_get, later_get, all_get}
 
 -- ---- a list with one element set
 
@@ -29,9 +29,6 @@ set_other (z ∷ xs) zero zero x apart = absurd (⊎_elim (λ (h : 0 < 0). omega
 set_other (z ∷ xs) zero (suc j) x apart = refl
 set_other (z ∷ xs) (suc i) zero x apart = refl
 set_other (z ∷ xs) (suc i) (suc j) x apart = set_other xs i j x (⊎_elim (λ (h : suc j < suc i). inl (omega arith)) (λ (h : suc i < suc j). inr (omega arith)) apart)
-
-some_same : {A : Type 0} (x y : A) (o : Option A) → o ≡ Some x → o ≡ Some y → x ≡ y
-some_same x y o a b = cc
 
 one_get : {A : Type 0} (z : A) (i : ℕ) (x : A) → slice_get (z ∷ []) i ≡ Some x → (i ≡ 0) × (z ≡ x)
 one_get z zero x at = (refl, cc)
@@ -103,7 +100,7 @@ line_more lines first notes m c d note below so runs = record {
     adds = runs.called.adds
 
     is_new : (j : ℕ) (x : Note) → j ≡ m → slice_get (slice_set notes m note) j ≡ Some x → note ≡ x
-    is_new j x same at = some_same note x (slice_get (slice_set notes m note) m) (set_same notes m note below) (ap (slice_get (slice_set notes m note)) (sym same) ∙ at)
+    is_new j x same at = one_some note x (slice_get (slice_set notes m note) m) (set_same notes m note below) (ap (slice_get (slice_set notes m note)) (sym same) ∙ at)
 
     in_front : (i : ℕ) (pair : Name × Entry) → slice_get ((c.pass.seen ++ adds.between) ++ (c.pass.name, e) ∷ []) i ≡ Some pair → Owns c.pass pair.0 → HasFirst (slice_set notes m note) (m + 1) i
     in_front i pair at own = ⊎_elim

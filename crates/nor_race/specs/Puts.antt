@@ -1,7 +1,7 @@
 -- What is put of a race.
-use Rattle.std.specs.Prelude.{◌≡◌, ℕ, List, length, slice_get, Option, Some}
+use Rattle.std.specs.Prelude.{◌≡◌, ℕ, List, length, slice_get, Some}
 use Rattle.nor_array.specs.declared.entry.Entry.{Entry}
-use Rattle.nor_io.specs.Files.{Appends, AppendsPart}
+use Rattle.nor_io.specs.Files.{SinkState, Appends, AppendsPart}
 use Rattle.nor_script.specs.Report.{entry_lines}
 use Rattle.nor_script.specs.declared.line.Line.{Line}
 use Rattle.nor_run.specs.Running.{has_halt}
@@ -20,11 +20,11 @@ pub record HasHistory (lines : List Line) (notes : List Note) : Type 0 where
   pub are : AreTold lines notes entries
 
 -- The history was put.
-pub record PutsAll (es : List Entry) (before after : Option (List ℕ)) (ran : Ran) : Type 0 where
-  pub text : Appends before (entry_lines 0 es) after
+pub record PutsAll (es : List Entry) (before after : SinkState) (ran : Ran) : Type 0 where
+  pub text : Appends before.taken (entry_lines 0 es) after.taken
   pub entries : ran.entries ≡ length es
   pub halted : ran.halted ≡ has_halt es
 
 -- a first part of it was
-abbrev pub PutsSome : List Entry → (before after : Option (List ℕ)) → Type 0
-PutsSome es before after = AppendsPart before (entry_lines 0 es) after
+abbrev pub PutsSome : List Entry → (before after : SinkState) → Type 0
+PutsSome es before after = AppendsPart before.taken (entry_lines 0 es) after.taken

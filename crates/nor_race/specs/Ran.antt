@@ -1,31 +1,20 @@
 -- What workers have run, and what their notes tell.
-use Rattle.std.specs.Prelude.{◌≡◌, ◌<◌, ℕ, List, length, slice_get, nat_le, if◌then◌else◌, Bool, true, false, Some}
+use Rattle.std.specs.Prelude.{◌≡◌, ◌<◌, ℕ, List, length, slice_get, nat_le, if◌then◌else◌, true, false, Some}
 use Rattle.nor_array.specs.declared.entry.Entry.{Entry}
 use Rattle.nor_array.specs.declared.entry.Op.{Op}
-use Rattle.nor_array.specs.declared.entry.Op.TheVariants.{Read, Program, EraseOpen, Poll, Lock, Unlock, IsLocked, Arm, PowerOn}
+use Rattle.nor_array.specs.declared.entry.Op.TheVariants.{Read}
 use Rattle.nor_bank.specs.State.{BankState}
 use Rattle.nor_turn.specs.Fronts.{Name, Front}
 use Rattle.nor_turn.specs.Passes.{PassView, Owns}
 use Rattle.nor_array.specs.Entries.{IsAwaited}
 use Rattle.nor_script.specs.declared.line.Line.{Line}
 use Rattle.nor_script.specs.declared.line.Word.TheVariants.{Call}
+use Rattle.nor_run.specs.Built.{is_built_call}
 use Rattle.nor_driver.specs.Callers.{Gives, CallerView, Called}
 use Rattle.nor_driver.specs.declared.caller.Answer.{Answer}
 use Rattle.nor_race.specs.declared.note.Note.{Note}
 
 -- ---- notes before the race
-
--- the call is one that is raced today: a read or a program
-abbrev pub is_raced : Op → Bool
-is_raced (Read at len) = true
-is_raced (Program at new) = true
-is_raced (EraseOpen b) = false
-is_raced Poll = false
-is_raced (Lock b) = false
-is_raced (Unlock b) = false
-is_raced (IsLocked b) = false
-is_raced (Arm cycles mask) = false
-is_raced PowerOn = false
 
 -- how many bytes a call may give
 abbrev pub room_for : Op → ℕ
@@ -38,14 +27,14 @@ RoomFor op bytes = length bytes ≡ room_for op
 abbrev pub answer_of : Note → Answer
 answer_of note = record { reply = note.reply; position = note.position }
 
--- The note is for this line: a call of the caller that is raced, for whose data it has room.
+-- The note is for this line: a call of the caller that is built, for whose data it has room.
 pub record IsFor (lines : List Line) (caller : ℕ) (note : Note) : Type 0 where
   pub line : Line
   pub op : Op
   pub at : slice_get lines note.line ≡ Some line
   pub word : line.word ≡ Call op
   pub by : line.caller ≡ caller
-  pub raced : is_raced op ≡ true
+  pub raced : is_built_call op ≡ true
   pub closes : note.closes ≡ false
   pub room : RoomFor op note.bytes.items
 
@@ -93,6 +82,10 @@ pub record HasNoteOf (teams : List (List Note)) (place : ℕ) : Type 0 where
 pub record Ran (lines : List Line) (teams : List (List Note)) (p : PassView BankState Entry) : Type 0 where
   pub told : (w : ℕ) (notes : List Note) → slice_get teams w ≡ Some notes → AllTell lines notes p.seen
   pub own : (place : ℕ) (pair : Name × Entry) → slice_get p.seen place ≡ Some pair → Owns p pair.0 → HasNoteOf teams place
+
+-- the lines of the notes ascend
+abbrev pub Ascend : List Note → Type 0
+Ascend notes = (i j : ℕ) (x y : Note) → i < j → slice_get notes i ≡ Some x → slice_get notes j ≡ Some y → x.line < y.line
 
 -- ---- one worker, on its way
 

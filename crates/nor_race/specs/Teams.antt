@@ -5,7 +5,8 @@ use Rattle.nor_array.specs.declared.entry.Op.{Op}
 use Rattle.nor_script.specs.declared.line.Line.{Line}
 use Rattle.nor_script.specs.declared.line.Word.TheVariants.{Call}
 use Rattle.nor_driver.specs.Callers.{CallerView, DriverView, IsCallerOf, WentOn}
-use Rattle.nor_race.specs.Ran.{AreFor, RanTo, Ran, is_raced}
+use Rattle.nor_run.specs.Built.{is_built_call}
+use Rattle.nor_race.specs.Ran.{AreFor, RanTo, Ran}
 use Rattle.nor_race.specs.Laws.{IsTeamFor}
 use Rattle.nor_race.specs.declared.note.Note.{Note}
 use Rattle.nor_race.specs.declared.team.Racer.{Racer}
@@ -14,7 +15,7 @@ use Rattle.nor_race.specs.declared.team.Racer.{Racer}
 pub record CanRaceLine (line : Line) : Type 0 where
   pub op : Op
   pub word : line.word ≡ Call op
-  pub raced : is_raced op ≡ true
+  pub raced : is_built_call op ≡ true
   pub least : 1 ≤ line.caller
   pub most : line.caller ≤ 8
 

@@ -4,7 +4,7 @@ ghost use Rattle.nor_bus.specs.Cycles.{KeepsLanes};
 ghost use Rattle.nor_bus.specs.Driven.{AllLanes};
 ghost use Rattle.nor_image.specs.Loaded.{bus_of, loaded_width};
 ghost use Rattle.nor_run.specs.Built.{are_built};
-ghost use Rattle.nor_run.specs.Scripts.{IsJustLoaded, IsLoaded, ShowsQry, EndsRun, Reports, ReportsImage};
+ghost use Rattle.nor_run.specs.Scripts.{IsJustLoaded, IsLoaded, HasRoom, ShowsQry, EndsRun, Reports, ReportsImage};
 ghost use Rattle.nor_script.specs.Script.{IsScript};
 
 use crate::gate::Gate;
@@ -30,21 +30,25 @@ fn race_loaded<R: Threads + Wait + Sync, G: Gate + Sync, K: Sink>(
     requires built { are_built script.now ≡ true }
     requires loaded { IsJustLoaded (loaded_width loaded) (bus_of loaded) }
     ensures width { loaded_width result.0 ≡ loaded_width loaded }
-    ensures ends { EndsRun true (loaded_width loaded) (bus_of loaded).lanes (record { before = K.taken out.old; after = K.taken out.new; faults_before = K.faults out.old; faults_after = K.faults out.new }) result.1 }
-    ensures reports { AllLanes ShowsQry (bus_of loaded) → Reports true (loaded_width loaded) script.now (bus_of loaded) (bus_of result.0) (record { before = K.taken out.old; after = K.taken out.new; faults_before = K.faults out.old; faults_after = K.faults out.new }) result.1 }
+    ensures ends { EndsRun true (loaded_width loaded) (bus_of loaded).lanes
+        (K.state out.old) (K.state out.new) result.1 }
+    ensures reports { AllLanes ShowsQry (bus_of loaded)
+        → Reports true (loaded_width loaded) script.now (bus_of loaded) (bus_of result.0)
+        (K.state out.old) (K.state out.new) result.1 }
     ensures lanes { KeepsLanes (bus_of loaded) (bus_of result.0) }
-    ensures later { K.faults out.old ≤ K.faults out.new }
+    ensures later { (K.state out.old).faults ≤ (K.state out.new).faults }
 {
     with_each_bank!(loaded, bank => race_bank(rt, alloc, bank, script, gate, out))
 }
 
 /// Races a script for the bank that was loaded from a file: the lines of each caller run in their order, in
 /// a thread of their own. When all have ended, puts the report: the entries in the order of the history,
-/// each lane's counters, and the number of entries. The file becomes that of the bank as it then is.
+/// each lane's counters, and the number of entries. The bytes of the file to save become the
+/// version 2 file of the bank as it then is: they must be as many.
 ///
 /// Each line must be built, and the script one that was parsed. The errors are those of
 /// [`nor_run::run_image`], and `NoMemory`, which comes before the first line is run and puts nothing. After an
-/// error the file is as it was.
+/// error the bytes are as they were.
 ///
 /// Where the chips' tables begin with `QRY`, the report is that of one legal history of the plain array that
 /// opens with the bank's bytes, whatever the schedule of the threads; it has each caller's lines once, in
@@ -61,11 +65,15 @@ pub fn race_image<R: Threads + Wait + Sync, G: Gate + Sync, K: Sink>(
 ) -> Result<Ran, RunError>
     requires script { IsScript script.now }
     requires built { are_built script.now ≡ true }
-    requires loaded { IsLoaded file.old loaded }
-    ensures ends { EndsRun true (loaded_width loaded) (bus_of loaded).lanes (record { before = K.taken out.old; after = K.taken out.new; faults_before = K.faults out.old; faults_after = K.faults out.new }) result }
-    ensures reports { AllLanes ShowsQry (bus_of loaded) → ReportsImage true (loaded_width loaded) script.now (bus_of loaded) (record { before = K.taken out.old; after = K.taken out.new; faults_before = K.faults out.old; faults_after = K.faults out.new }) file.new result }
+    requires loaded { IsLoaded loaded }
+    requires room { HasRoom file.old loaded }
+    ensures ends { EndsRun true (loaded_width loaded) (bus_of loaded).lanes
+        (K.state out.old) (K.state out.new) result }
+    ensures reports { AllLanes ShowsQry (bus_of loaded)
+        → ReportsImage true (loaded_width loaded) script.now (bus_of loaded)
+        (K.state out.old) (K.state out.new) file.new result }
     ensures same { IsErr result → file.new ≡ file.old }
-    ensures later { K.faults out.old ≤ K.faults out.new }
+    ensures later { (K.state out.old).faults ≤ (K.state out.new).faults }
 {
     let (loaded, ran) = race_loaded(rt, alloc, loaded, script, gate, out);
     match ran {

@@ -3,11 +3,13 @@
 //! [`race_lines`] gives a script's lines to one worker for each caller that has some. The workers run
 //! them in their order, by calls of the driver of nor_driver, and stand at a [`Gate`] before and after
 //! each. A set of workers is started by halving it, and their callers are folded together when all have
-//! ended. All memory is taken before the first bus cycle.
+//! ended. All memory is taken before the first of the lines. [`race_image`] does so for a bank that was
+//! just loaded, puts the report, and gives the bank back.
 //!
 //! The [`Notes`] of a race are what is to be printed of the history, entry by entry: `Races` in
 //! `specs/Races.antt` says that the history answers the script, that the bank stands for it afterwards,
-//! and that the note at each place tells the entry there. What is promised of a set of workers on the
+//! that the note at each place tells the entry there, and that the notes of a caller are in the order of
+//! its lines. What is promised of a set of workers on the
 //! way is `Ran` in `specs/Ran.antt`: each note tells the entry at its position in what the pass has
 //! seen, and each entry under a name of the pass is told by a note.
 //!

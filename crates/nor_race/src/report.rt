@@ -33,26 +33,30 @@ use std::thread::Threads;
 fn put_note<K: Sink>(lines: &[Line], notes: &Notes, k: u64, out: &mut K) -> Result<Reply, SinkError>
     requires history { HasHistory lines.now notes.now }
     requires there { k < length notes.now }
-    ensures puts { (es : List Entry) (e : Entry) → AreTold lines.now notes.now es → slice_get es k ≡ Some e
-        → PutsReply (line_of_entry k e) e.reply (record { before = K.taken out.old; after = K.taken out.new; faults_before = K.faults out.old; faults_after = K.faults out.new }) result }
-    ensures fault { result ≡ Err Fault → Rose (K.faults out.old) (K.faults out.new) }
-    ensures later { K.faults out.old ≤ K.faults out.new }
+    ensures puts { (es : List Entry) (e : Entry) → AreTold lines.now notes.now es
+        → slice_get es k ≡ Some e
+        → PutsReply (line_of_entry k e) e.reply (K.state out.old) (K.state out.new) result }
+    ensures fault { result ≡ Err Fault → Rose (K.state out.old).faults (K.state out.new).faults }
+    ensures later { (K.state out.old).faults ≤ (K.state out.new).faults }
 {
     let note = notes.note(k);
     let line = &lines[note.line as usize];
     match &line.word {
         Word::Call(op) => put_reply(out, k, line.caller, op, note.reply, &note.bytes),
         Word::Erase { .. } => unreachable!(),
+        Word::EraseAll => unreachable!(),
     }
 }
 
 // Puts the entries, in the order of the history.
 fn put_notes<K: Sink>(lines: &[Line], notes: &Notes, out: &mut K) -> Result<Ran, SinkError>
     requires history { HasHistory lines.now notes.now }
-    ensures whole { IfOk result (λ ran. (es : List Entry) → AreTold lines.now notes.now es → PutsAll es (K.taken out.old) (K.taken out.new) ran) }
-    ensures part { IfErr result (λ _. (es : List Entry) → AreTold lines.now notes.now es → PutsSome es (K.taken out.old) (K.taken out.new)) }
-    ensures fault { result ≡ Err Fault → Rose (K.faults out.old) (K.faults out.new) }
-    ensures later { K.faults out.old ≤ K.faults out.new }
+    ensures whole { IfOk result (λ ran. (es : List Entry) → AreTold lines.now notes.now es
+        → PutsAll es (K.state out.old) (K.state out.new) ran) }
+    ensures part { IfErr result (λ _. (es : List Entry) → AreTold lines.now notes.now es
+        → PutsSome es (K.state out.old) (K.state out.new)) }
+    ensures fault { result ≡ Err Fault → Rose (K.state out.old).faults (K.state out.new).faults }
+    ensures later { (K.state out.old).faults ≤ (K.state out.new).faults }
 {
     let mut ran = Ran {
         entries: 0,
@@ -82,10 +86,11 @@ fn race_and_put<
 ) -> (Bank<W, B>, Result<Ran, RunError>)
     requires closed { bank.erase ≡ None }
     requires lines { CanRaceLines script.now }
-    ensures runs { (a : ArrayState) → CanCall bank a → RunsLines true script.now bank result.0 a (record { before = K.taken out.old; after = K.taken out.new; faults_before = K.faults out.old; faults_after = K.faults out.new }) result.1 }
-    ensures ends { EndsLines true (record { before = K.taken out.old; after = K.taken out.new; faults_before = K.faults out.old; faults_after = K.faults out.new }) result.1 }
+    ensures runs { (a : ArrayState) → CanCall bank a
+        → RunsLines true script.now bank result.0 a (K.state out.old) (K.state out.new) result.1 }
+    ensures ends { EndsLines true (K.state out.old) (K.state out.new) result.1 }
     ensures keeps { KeepsBank bank result.0 }
-    ensures later { K.faults out.old ≤ K.faults out.new }
+    ensures later { (K.state out.old).faults ≤ (K.state out.new).faults }
 {
     match race_lines(rt, alloc, bank, script, gate) {
         Ok(raced) => {
@@ -115,10 +120,12 @@ pub fn race_bank<
     requires script { IsScript script.now }
     requires built { are_built script.now ≡ true }
     requires loaded { IsJustLoaded W.WIDTH bank }
-    ensures ends { EndsRun true W.WIDTH bank.lanes (record { before = K.taken out.old; after = K.taken out.new; faults_before = K.faults out.old; faults_after = K.faults out.new }) result.1 }
-    ensures reports { AllLanes ShowsQry bank → Reports true W.WIDTH script.now bank result.0 (record { before = K.taken out.old; after = K.taken out.new; faults_before = K.faults out.old; faults_after = K.faults out.new }) result.1 }
+    ensures ends { EndsRun true W.WIDTH bank.lanes (K.state out.old) (K.state out.new) result.1 }
+    ensures reports { AllLanes ShowsQry bank
+        → Reports true W.WIDTH script.now bank result.0
+        (K.state out.old) (K.state out.new) result.1 }
     ensures lanes { KeepsLanes bank result.0 }
-    ensures later { K.faults out.old ≤ K.faults out.new }
+    ensures later { (K.state out.old).faults ≤ (K.state out.new).faults }
 {
     match start_bank(bank) {
         Ok(bank) => {

@@ -2,7 +2,8 @@
 ghost use Rattle.std.specs.Prelude.{◌≡◌, ◌≤◌, ◌<◌, ◌+◌, ℕ, [], length, map, true};
 ghost use Rattle.nor_array.specs.declared.entry.Op.{Op as OpOf};
 ghost use Rattle.nor_driver.specs.Callers.{IsCallerOf, Called, WentOn};
-ghost use Rattle.nor_race.specs.Ran.{answer_of, RoomFor, is_raced, IsFor, AreFor, RanTo, RunsLine};
+ghost use Rattle.nor_run.specs.Built.{is_built_call};
+ghost use Rattle.nor_race.specs.Ran.{answer_of, RoomFor, IsFor, AreFor, RanTo, RunsLine};
 
 use crate::gate::{Gate, Stage};
 use crate::note::Note;
@@ -24,7 +25,7 @@ fn call<R: Wait, W: BusWord, B: Bus<W>>(
 )
     requires own { IsCallerOf driver.now caller.old }
     requires room { 2 ≤ caller.old.pass.room }
-    requires raced { is_raced op.now ≡ true }
+    requires raced { is_built_call op.now ≡ true }
     requires bytes { RoomFor op.now note.old.bytes.items }
     ensures called { Called (driver.now).opening op.now note.new.bytes.items caller.old caller.new (answer_of note.new) }
     ensures line { (note.new.line ≡ note.old.line) × (note.new.closes ≡ note.old.closes) }
@@ -65,6 +66,7 @@ fn run_line<R: Wait, W: BusWord, B: Bus<W>, G: Gate>(
     match &line.word {
         Word::Call(op) => call(rt, driver, caller, op, note),
         Word::Erase { .. } => unreachable!(),
+        Word::EraseAll => unreachable!(),
     }
     gate.at(number, line.number, Stage::After);
 }

@@ -1,6 +1,6 @@
 -- The file of a bank keeps its length while the chips stay what they are.
-use Rattle.std.proofs.Common.{◌≡◌, ◌<◌, ◌∙◌, ◌++◌, ◌∷◌, ℕ, suc, List, [], length, refl, sym, ap, subst, arith, IsTrue}
 use Rattle.std.specs.Int.{w32, to_le_bytes}
+use Rattle.std.proofs.Common.{◌≡◌, ◌<◌, ◌+◌, ◌∙◌, ◌++◌, ◌∷◌, ℕ, suc, List, [], length, Bool, true, false, if◌then◌else◌, refl, sym, ap, subst, arith, IsTrue}
 use Rattle.std.proofs.lemmas.List.{length-append}
 use Rattle.nor_cell.specs.Chip.{ChipState, Part}
 use Rattle.nor_cell.specs.Steps.{Keeps}
@@ -8,47 +8,93 @@ use Rattle.nor_cell.specs.Table.{set_of}
 use Rattle.nor_query.specs.Derived.{table_blocks}
 use Rattle.nor_bus.specs.Bus.{BusState, chip_at, lanes_of}
 use Rattle.nor_bus.specs.Cycles.{KeepsLanes}
-use Rattle.nor_image.specs.Image.{is_size_by}
-use Rattle.nor_image.specs.Written.{number_bytes, place_bytes, kept_bytes, record_bytes, records_bytes, header_bytes, file_of, AreStorable}
+use Rattle.nor_bus.specs.Driven.{EachLane}
+use Rattle.nor_bank.specs.Programs.{Lasts}
+use Rattle.nor_cell.specs.declared.device.Set.{Set}
+use Rattle.nor_image.specs.Image.{is_size_by, keeps_locks, kept_locks}
+use Rattle.nor_image.specs.Written.{number_bytes, place_bytes, lock_bytes, kept_bytes, kept_of, record_bytes, records_bytes, header_bytes, bank_set, file_of, AreStorable, AgreeOnLocks}
+use Rattle.nor_image.specs.declared.header.Version.TheVariants.{Two}
+use Rattle.nor_image.proofs.ReadBack.{length-lock_bytes}
 
-kept_length : (part : Part) (xs ys : List ℕ) (a b c d : ℕ) → length ys ≡ length xs → length (kept_bytes part ys c d) ≡ length (kept_bytes part xs a b)
+-- how long a record is
+long : (part : Part) (locks : List Bool) (cells : List ℕ) (suspends erases : ℕ)
+    → length (kept_bytes Two part locks cells suspends erases) ≡ 28 + length part.table + length (place_bytes part.weak) + length locks + length cells
 unfolding kept_bytes
-kept_length part xs ys a b c d same =
-    let front = λ (cells : List ℕ) (s e : ℕ). number_bytes part s e ++ part.table ++ to_le_bytes w32 (length cells) ++ place_bytes part.weak in
-    let one = length-append (number_bytes part a b) part.table in
-    let two = length-append (number_bytes part a b ++ part.table) (to_le_bytes w32 (length xs)) in
-    let three = length-append (number_bytes part a b ++ part.table ++ to_le_bytes w32 (length xs)) (place_bytes part.weak) in
-    let four = length-append (number_bytes part a b ++ part.table ++ to_le_bytes w32 (length xs) ++ place_bytes part.weak) xs in
-    let uno = length-append (number_bytes part c d) part.table in
-    let due = length-append (number_bytes part c d ++ part.table) (to_le_bytes w32 (length ys)) in
-    let tre = length-append (number_bytes part c d ++ part.table ++ to_le_bytes w32 (length ys)) (place_bytes part.weak) in
-    let quattro = length-append (number_bytes part c d ++ part.table ++ to_le_bytes w32 (length ys) ++ place_bytes part.weak) ys in
-    let numbers : length (number_bytes part c d) ≡ length (number_bytes part a b) = refl in
-    let size : length (to_le_bytes w32 (length ys)) ≡ length (to_le_bytes w32 (length xs)) = refl in
-    omega (arith, same, one, two, three, four, uno, due, tre, quattro, numbers, size)
+long part locks cells suspends erases =
+    let numbers = number_bytes part suspends erases in
+    let size = to_le_bytes w32 (length cells) in
+    let places = place_bytes part.weak in
+    let bits = lock_bytes Two locks in
+    let a = length-append numbers part.table in
+    let b = length-append (numbers ++ part.table) size in
+    let c = length-append (numbers ++ part.table ++ size) places in
+    let d = length-append (numbers ++ part.table ++ size ++ places) bits in
+    let e = length-append (numbers ++ part.table ++ size ++ places ++ bits) cells in
+    let g = length-lock_bytes Two locks in
+    let h : length numbers ≡ 20 = refl in
+    let i : length size ≡ 4 = refl in
+    omega arith
 
-record_length : (s t : ChipState) → Keeps s t → length (record_bytes t) ≡ length (record_bytes s)
-record_length s t keeps =
-    ap (λ (p : Part). length (kept_bytes p t.cells t.suspends t.erases)) keeps.part ∙ kept_length s.part s.cells t.cells s.suspends s.erases t.suspends t.erases keeps.size
+kept_length : (part : Part) (ls ms : List Bool) (xs ys : List ℕ) (a b c d : ℕ) → length ms ≡ length ls → length ys ≡ length xs
+    → length (kept_bytes Two part ms ys c d) ≡ length (kept_bytes Two part ls xs a b)
+kept_length part ls ms xs ys a b c d locks same =
+    let new = long part ms ys c d in
+    let old = long part ls xs a b in
+    omega (arith, new, old, locks, same)
 
-records_length : (xs ys : List ChipState) → length ys ≡ length xs → ((c : ℕ) → c < length xs → Keeps (chip_at xs c) (chip_at ys c)) → length (records_bytes ys) ≡ length (records_bytes xs)
-records_length [] [] count each = refl
-records_length [] (y ∷ ys) count each = absurd (omega (arith, count))
-records_length (x ∷ xs) [] count each = absurd (omega (arith, count))
-records_length (x ∷ xs) (y ∷ ys) count each =
-    let first = record_length x y (each 0 (omega arith)) in
-    let rest = records_length xs ys (omega (arith, count)) (λ c below. each (suc c) (omega arith)) in
-    let new = length-append (record_bytes y) (records_bytes ys) in
-    let old = length-append (record_bytes x) (records_bytes xs) in
+-- as many locks are kept
+kept_count : (set : Set) (s t : ChipState) → Keeps s t → length (kept_of set t) ≡ length (kept_of set s)
+kept_count set s t keeps = ap (λ (p : Part). length (kept_locks set p.table t.locks)) keeps.part ∙ by_test (keeps_locks set s.part.table) keeps.locks
+  where
+    by_test : (b : Bool) → length t.locks ≡ length s.locks → length (if b then t.locks else []) ≡ length (if b then s.locks else [])
+    by_test true same = same
+    by_test false same = refl
+
+record_length : (set : Set) (s t : ChipState) → Keeps s t → length (record_bytes Two set t) ≡ length (record_bytes Two set s)
+record_length set s t keeps =
+    ap (λ (p : Part). length (kept_bytes Two p (kept_of set t) t.cells t.suspends t.erases)) keeps.part
+    ∙ kept_length s.part (kept_of set s) (kept_of set t) s.cells t.cells s.suspends s.erases t.suspends t.erases (kept_count set s t keeps) keeps.size
+
+records_length : (set : Set) (xs ys : List ChipState) → length ys ≡ length xs → ((c : ℕ) → c < length xs → Keeps (chip_at xs c) (chip_at ys c))
+    → length (records_bytes Two set ys) ≡ length (records_bytes Two set xs)
+records_length set [] [] count each = refl
+records_length set [] (y ∷ ys) count each = absurd (omega (arith, count))
+records_length set (x ∷ xs) [] count each = absurd (omega (arith, count))
+records_length set (x ∷ xs) (y ∷ ys) count each =
+    let first = record_length set x y (each 0 (omega arith)) in
+    let rest = records_length set xs ys (omega (arith, count)) (λ c below. each (suc c) (omega arith)) in
+    let new = length-append (record_bytes Two set y) (records_bytes Two set ys) in
+    let old = length-append (record_bytes Two set x) (records_bytes Two set xs) in
     omega (arith, first, rest, new, old)
 
-pub file_length : (width : ℕ) (old new : BusState) → KeepsLanes old new → length (file_of width new.lanes) ≡ length (file_of width old.lanes)
-file_length width old new keeps =
-    let records = records_length old.lanes new.lanes keeps.count keeps.each in
-    let after = length-append (header_bytes width (chip_at new.lanes 0).part.device (length new.lanes)) (records_bytes new.lanes) in
-    let before = length-append (header_bytes width (chip_at old.lanes 0).part.device (length old.lanes)) (records_bytes old.lanes) in
-    let heads : length (header_bytes width (chip_at new.lanes 0).part.device (length new.lanes)) ≡ length (header_bytes width (chip_at old.lanes 0).part.device (length old.lanes)) = refl in
-    omega (arith, records, after, before, heads)
+-- the set that lane 0's table names stays
+same_set : (old new : BusState) → 0 < lanes_of old → KeepsLanes old new → bank_set new.lanes ≡ bank_set old.lanes
+same_set old new some keeps = ap (λ (p : Part). set_of p.table) (keeps.each 0 some).part
+
+pub file_length : (width : ℕ) (old new : BusState) → 0 < lanes_of old → KeepsLanes old new → length (file_of width new.lanes) ≡ length (file_of width old.lanes)
+file_length width old new some keeps =
+    let set = bank_set old.lanes in
+    let records = records_length set old.lanes new.lanes keeps.count keeps.each in
+    let named = ap (λ (s : Set). length (records_bytes Two s new.lanes)) (same_set old new some keeps) in
+    let after = length-append (header_bytes Two width (chip_at new.lanes 0).part.device (length new.lanes)) (records_bytes Two (bank_set new.lanes) new.lanes) in
+    let before = length-append (header_bytes Two width (chip_at old.lanes 0).part.device (length old.lanes)) (records_bytes Two set old.lanes) in
+    let heads : length (header_bytes Two width (chip_at new.lanes 0).part.device (length new.lanes)) ≡ length (header_bytes Two width (chip_at old.lanes 0).part.device (length old.lanes)) = refl in
+    omega (arith, records, named, after, before, heads)
+
+-- Lanes that agree on their locks go on to, where no lock changes.
+pub still_agree : (old new : BusState) → 0 < lanes_of old → lanes_of new ≡ lanes_of old → EachLane Lasts old new → AgreeOnLocks old.lanes → AgreeOnLocks new.lanes
+still_agree old new some count lasts agree c d below_c below_d as_many =
+    is c below_c ∙ (agree c d (at c below_c) (at d below_d) (sym (ap length (is c below_c)) ∙ (as_many ∙ ap length (is d below_d))) ∙ sym (is d below_d))
+  where
+    at : (k : ℕ) → k < length new.lanes → k < length old.lanes
+    at k below = subst (λ (n : ℕ). k < n) count below
+
+    -- what a lane keeps is as it was
+    is : (k : ℕ) → k < length new.lanes → kept_of (bank_set new.lanes) (chip_at new.lanes k) ≡ kept_of (bank_set old.lanes) (chip_at old.lanes k)
+    is k below =
+        let each = lasts k (at k below) in
+        let first = lasts 0 some in
+        λ i. kept_locks (set_of (first.part i).table) (each.part i).table (each.locks i)
 
 -- A bank that a file can store goes on to be one.
 pub still_storable : (old new : BusState) → 0 < lanes_of old → KeepsLanes old new → AreStorable old.lanes → AreStorable new.lanes

@@ -1,5 +1,5 @@
 -- A bank that was just loaded, shows `QRY` in every lane, and is found, can be started.
-use Rattle.std.proofs.Common.{◌≡◌, ◌<◌, ◌≤◌, ◌∙◌, ℕ, zero, suc, List, length, replicate, slice_index, slice_index_or, Bool, true, false, Some, None, refl, sym, ap, subst, arith}
+use Rattle.std.proofs.Common.{◌≡◌, ◌<◌, ◌≤◌, ◌∙◌, ℕ, zero, suc, List, length, replicate, slice_index, slice_index_or, Bool, true, false, if◌then◌else◌, [], Some, None, refl, sym, ap, subst, arith}
 use Rattle.std.proofs.lemmas.List.{length-replicate}
 use Rattle.nor_cell.specs.Chip.{ChipState, Mode, Array, Fault, NoFault}
 use Rattle.nor_cell.specs.Power.{locks_after}
@@ -8,7 +8,6 @@ use Rattle.nor_cell.specs.Resting.{IsResting, can_reset, reset}
 use Rattle.nor_cell.specs.Table.{field_8, set_of, has_locks}
 use Rattle.nor_cell.specs.declared.device.Set.{Set}
 use Rattle.nor_cell.specs.declared.device.Set.TheVariants.{Intel, Amd}
-use Rattle.nor_cell.specs.declared.device.Span.{Span}
 use Rattle.nor_cell.specs.declared.geometry.Geometry.{Geometry}
 use Rattle.nor_bus.specs.Bus.{BusState, lane, lanes_of, chip_at}
 use Rattle.nor_bus.specs.Driven.{AllLanes, EachLane}
@@ -26,7 +25,8 @@ use Rattle.nor_probe.specs.declared.probing.Found.{Found}
 use Rattle.nor_probe.proofs.OwnWiring.{ShowQry, own_first}
 use Rattle.nor_bank.specs.Stands.{IsQuiet, CanStart}
 use Rattle.nor_bank.proofs.Tables.{shown_later, named_same, size_same, locks_same, blocks_same}
-use Rattle.nor_image.specs.Image.{IsImageOf}
+use Rattle.nor_image.specs.Image.{IsImageOf, kept_locks, locks_of, machine_of, record_place, table_in}
+use Rattle.nor_image.specs.Written.{bank_set}
 use Rattle.nor_image.proofs.Sizes.{size_of_table}
 use Rattle.nor_run.specs.Scripts.{IsJustPowered, IsJustLoaded, ShowsQry}
 use Rattle.nor_run.proofs.OneTable.{own_table, one_table}
@@ -40,16 +40,21 @@ none_set (suc m) (suc b) h is = none_set m b h is
 
 first_unlocked : (set : Set) (table : List ℕ) (xs : List Bool) (b : ℕ) → has_locks table ≡ false → slice_index_or (locks_after set table xs) b false ≡ false
 first_unlocked Intel table xs b none = none_set (length xs) b (has_locks table) none
-first_unlocked Amd table xs b none = none_set (length xs) b false refl
+first_unlocked Amd table xs b none =
+    ap (λ (offered : Bool). slice_index_or (if offered then xs else replicate (length xs) false) b false) none ∙ none_set (length xs) b false refl
 
-locks_alike : (set : Set) (t u : List ℕ) (xs : List Bool) → has_locks u ≡ has_locks t → locks_after set u xs ≡ locks_after set t xs
-locks_alike Intel t u xs same = ap (λ (h : Bool). replicate (length xs) h) same
-locks_alike Amd t u xs same = refl
-
--- none offered, so none set
-pub all_clear : (set : Set) (table : List ℕ) (n : ℕ) → has_locks table ≡ false → locks_after set table (replicate n false) ≡ replicate n false
-all_clear Intel table n none = (λ i. replicate (length-replicate n false i) (none i))
-all_clear Amd table n none = ap (λ (m : ℕ). replicate m false) (length-replicate n false)
+-- two chips of one set that agree on what they keep without power have the same locks once they are powered on
+locks_alike : (set : Set) (t u : List ℕ) (xs ys : List Bool) → has_locks u ≡ has_locks t → length ys ≡ length xs
+    → (length (kept_locks set u ys) ≡ length (kept_locks set t xs) → kept_locks set u ys ≡ kept_locks set t xs) → locks_after set u ys ≡ locks_after set t xs
+locks_alike Intel t u xs ys same count agree = λ i. replicate (count i) (same i)
+locks_alike Amd t u xs ys same count agree = by_test (has_locks u) (has_locks t) same agree
+  where
+    by_test : (b c : Bool) → b ≡ c → (length (if b then ys else []) ≡ length (if c then xs else []) → (if b then ys else []) ≡ (if c then xs else []))
+        → (if b then ys else replicate (length ys) false) ≡ (if c then xs else replicate (length xs) false)
+    by_test true true is agree = agree count
+    by_test false false is agree = ap (λ (n : ℕ). replicate n false) count
+    by_test true false is agree = absurd cc
+    by_test false true is agree = absurd cc
 
 -- ---- at rest
 
@@ -139,17 +144,21 @@ module _ (width : ℕ) (bus : BusState) (loaded : IsJustLoaded width bus) (range
             (let low = head.size_low in omega (arith, log, low)) (let high = head.size_high in omega (arith, log, high));
         unlocked = λ without b.
             ap (λ (locks : List Bool). slice_index_or locks b false) (loaded.chips c below).locks
-            ∙ first_unlocked (lane bus c).part.set (lane bus c).part.table (replicate (length (lane bus c).part.blocks) false) b without;
+            ∙ first_unlocked (lane bus c).part.set (lane bus c).part.table (lane bus c).locks b without;
       }
 
   locks_are : (c : ℕ) → c < lanes_of bus → (lane bus c).locks ≡ (lane bus 0).locks
   locks_are c below =
-      let set : (lane bus c).part.set ≡ (lane bus 0).part.set = loaded.storable.machine c below ∙ sym (loaded.storable.machine 0 some) in
-      let blocks : (lane bus c).part.blocks ≡ (lane bus 0).part.blocks = loaded.storable.blocks c below ∙ (laid c below ∙ sym (loaded.storable.blocks 0 some)) in
+      let one = lane bus c in
+      let zeroth = lane bus 0 in
+      let set : one.part.set ≡ bank_set bus.lanes = loaded.storable.machine c below in
+      let set_0 : zeroth.part.set ≡ bank_set bus.lanes = loaded.storable.machine 0 some in
+      let blocks : one.part.blocks ≡ zeroth.part.blocks = loaded.storable.blocks c below ∙ (laid c below ∙ sym (loaded.storable.blocks 0 some)) in
+      let count : length one.locks ≡ length zeroth.locks = (ranges c below).locks ∙ (ap length blocks ∙ sym (ranges 0 some).locks) in
       (loaded.chips c below).locks
-      ∙ (ap (λ (bs : List Span). locks_after (lane bus c).part.set (lane bus c).part.table (replicate (length bs) false)) blocks
-      ∙ (locks_alike (lane bus c).part.set (lane bus 0).part.table (lane bus c).part.table (replicate (length (lane bus 0).part.blocks) false) (offered c below)
-      ∙ (ap (λ (s : Set). locks_after s (lane bus 0).part.table (replicate (length (lane bus 0).part.blocks) false)) set ∙ sym (loaded.chips 0 some).locks)))
+      ∙ (ap (λ (s : Set). locks_after s one.part.table one.locks) set
+      ∙ (locks_alike (bank_set bus.lanes) zeroth.part.table one.part.table zeroth.locks one.locks (offered c below) count (loaded.agree c 0 below some)
+      ∙ (ap (λ (s : Set). locks_after s zeroth.part.table zeroth.locks) (sym set_0) ∙ sym (loaded.chips 0 some).locks)))
 
   pub can_start : CanStart width (wiring (length bus.lanes) loaded.device) bus
   can_start = record {
@@ -163,8 +172,18 @@ module _ (width : ℕ) (bus : BusState) (loaded : IsJustLoaded width bus) (range
 
 -- ---- a bank of a file
 
+-- power-on changes nothing of what it left
+twice : (set : Set) (table : List ℕ) (xs : List Bool) → locks_after set table xs ≡ locks_after set table (locks_after set table xs)
+twice Intel table xs = ap (λ (n : ℕ). replicate n (has_locks table)) (sym (length-replicate (length xs) (has_locks table)))
+twice Amd table xs = by_test (has_locks table)
+  where
+    by_test : (b : Bool) → (if b then xs else replicate (length xs) false)
+        ≡ (if b then (if b then xs else replicate (length xs) false) else replicate (length (if b then xs else replicate (length xs) false)) false)
+    by_test true = refl
+    by_test false = ap (λ (n : ℕ). replicate n false) (sym (length-replicate (length xs) false))
+
 pub just_loaded : (file : List ℕ) (width : ℕ) (chips : List ChipState) (c : ℕ) → IsImageOf file width chips → c < length chips → IsJustPowered (chip_at chips c)
 just_loaded file width chips c image below = subst (λ (s : ChipState). IsJustPowered s) (sym (image.each c below)) (record {
   quiet = record { shown = record { mode = refl; step = refl; job = refl; fault = refl }; held = refl };
-  locks = refl;
+  locks = twice (machine_of file) (table_in file (record_place file c)) (locks_of file (record_place file c));
 })

@@ -1,24 +1,20 @@
 -- From a bank that was started to the bank that was loaded.
-use Rattle.std.proofs.Common.{◌≡◌, ◌≢◌, ◌<◌, ◌≤◌, ◌*◌, ◌&&◌, ◌==◌, ◌∙◌, not, ℕ, zero, suc, List, [], ◌∷◌, length, replicate, take, map, slice_index_or, Bool, true, false, Option, Some, None, Result, Ok, Err, refl, sym, ap, subst, arith}
+use Rattle.std.proofs.Common.{◌≡◌, ◌≢◌, ◌<◌, ◌≤◌, ◌*◌, ◌&&◌, ◌==◌, ◌∙◌, not, ℕ, zero, suc, List, [], ◌∷◌, length, take, map, Bool, true, false, Option, Some, None, Result, Ok, Err, refl, sym, ap, subst, arith}
 use Rattle.std.specs.List.{list_all}
-use Rattle.nor_io.specs.Files.{Appends, AppendsPart}
+use Rattle.nor_io.specs.Files.{SinkState, Appends, AppendsPart}
 use Rattle.nor_io.specs.declared.sink.SinkError.{SinkError}
 use Rattle.nor_io.specs.declared.sink.SinkError.TheVariants.{Fault, NoMemory}
 use Rattle.nor_io.proofs.Pieces.{Appends-append, AppendsPart-append, AppendsPart-more}
 use Rattle.nor_cell.specs.Chip.{ChipState}
 use Rattle.nor_cell.specs.Ranges.{IsChip}
-use Rattle.nor_cell.specs.declared.device.Device.{Device}
-use Rattle.nor_cell.specs.declared.device.Set.{Set}
-use Rattle.nor_cell.specs.declared.device.Set.TheVariants.{Intel, Amd}
 use Rattle.nor_cell.specs.declared.geometry.Geometry.{Geometry}
-use Rattle.nor_bus.specs.Bus.{BusState, IsBank, lane, chip_at, bank_byte, bank_bytes, bank_size}
+use Rattle.nor_bus.specs.Bus.{BusState, lane, chip_at, bank_byte, bank_bytes, bank_size}
 use Rattle.nor_bus.specs.Cycles.{KeepsLanes}
-use Rattle.nor_bus.specs.Driven.{AllLanes, EachLane, Lost}
+use Rattle.nor_bus.specs.Driven.{AllLanes, EachLane, Lost, Counted}
 use Rattle.nor_bus.proofs.Driving.{keeps_then, still_none, some_lane}
 use Rattle.nor_cell.specs.Resting.{IsResting}
 use Rattle.nor_lane.specs.Candidates.{wiring}
 use Rattle.nor_probe.specs.Asking.{Resets}
-use Rattle.nor_probe.specs.Counted.{Counted}
 use Rattle.nor_probe.specs.declared.error.ProbeError.{ProbeError}
 use Rattle.nor_probe.specs.declared.error.ProbeError.TheVariants.{Off as LostPower}
 use Rattle.nor_query.specs.Derived.{locks_of}
@@ -29,58 +25,60 @@ use Rattle.nor_array.specs.After.{after_all}
 use Rattle.nor_array.specs.Legal.{Facts, Legal}
 use Rattle.nor_array.specs.declared.entry.Entry.{Entry}
 use Rattle.nor_array.specs.declared.state.OpenErase.{OpenErase}
-use Rattle.nor_script.specs.Puts.{Taken, PutsText}
+use Rattle.nor_io.specs.Puts.{PutsText}
 use Rattle.nor_script.specs.Report.{entry_lines, totals_text}
 use Rattle.nor_script.specs.declared.line.Line.{Line}
 use Rattle.nor_bank.specs.Calls.{facts_of}
 use Rattle.nor_bank.specs.Programs.{Lasts, IsSound}
-use Rattle.nor_bank.specs.Stands.{Stands, IsKnown, CanStart, array_of, constants_of, locked_at_first, under_of, kept_power, cut_of, is_under}
-use Rattle.nor_bank.specs.State.{BankState, size_of, blocks_of, bytes_of}
+use Rattle.nor_bank.specs.Stands.{Stands, IsKnown, CanStart, opening_array, constants_of, under_of, kept_power, cut_of, is_under}
+use Rattle.nor_bank.specs.State.{BankState, size_of, bytes_of}
 use Rattle.nor_bank.proofs.Known.{known_parts, known_some}
-use Rattle.nor_image.specs.Image.{IsImageOf}
-use Rattle.nor_image.specs.Written.{file_of, AreStorable, Stores}
+use Rattle.nor_image.specs.Image.{IsImageOf, device_of}
+use Rattle.nor_image.specs.Loaded.{bus_of, loaded_width}
+use Rattle.nor_image.specs.declared.loaded.Loaded.{Loaded}
+use Rattle.nor_image.specs.Written.{file_of, Stores}
 use Rattle.nor_cell.specs.Power.{powered}
 use Rattle.nor_run.specs.Built.{is_sound, is_built_bank}
 use Rattle.nor_bank.specs.Work.{CanCall, KeepsBank}
 use Rattle.nor_run.specs.Running.{IsCount, IsHistoryOf, RunsWhole, RunsPart, RunsLines, EndsLines, ReportsWhole, ReportsPart, ReportsLines, counters_of}
-use Rattle.nor_run.specs.Scripts.{IsJustLoaded, ShowsQry, RunsImage, started, opening_of, HoldsBytes, RunsLegally, EndsRun, Reports}
+use Rattle.nor_run.specs.Scripts.{IsJustLoaded, IsLoaded, HasRoom, ShowsQry, RunsImage, started, opening_of, HoldsBytes, RunsLegally, EndsRun, Reports}
 use Rattle.nor_run.specs.Started.{IsStarted, Starts, Refuses}
 use Rattle.nor_run.specs.declared.error.RunError.{RunError}
 use Rattle.nor_run.specs.declared.error.RunError.TheVariants.{Probe, NotBuilt, NoMemory as Memory, Put}
 use Rattle.nor_run.specs.declared.lines.Ran.{Ran}
-use Rattle.nor_run.proofs.FileSizes.{still_storable}
-use Rattle.nor_run.proofs.JustLoaded.{quiet_rests, same_lanes, can_start}
+use Rattle.nor_run.proofs.FileSizes.{still_storable, still_agree, file_length}
+use Rattle.nor_run.proofs.JustLoaded.{just_loaded, quiet_rests, same_lanes, can_start}
 
 -- ---- the report behind the lines
 
-pub report_whole : (race : Bool) (lines : List Line) (old new : BankState) (a : ArrayState) (before mid after : Option (List ℕ)) (ran : Ran)
-    → RunsWhole race lines old new a before mid ran → Appends mid (totals_text (counters_of new.bus.lanes) ran.entries) after
+pub report_whole : (race : Bool) (lines : List Line) (old new : BankState) (a : ArrayState) (before mid after : SinkState) (ran : Ran)
+    → RunsWhole race lines old new a before mid ran → Appends mid.taken (totals_text (counters_of new.bus.lanes) ran.entries) after.taken
     → ReportsWhole race lines old new a before after ran
 report_whole race lines old new a before mid after ran runs totals = record {
   history = runs.history;
   is = runs.is;
-  text = Appends-append before mid after (entry_lines 0 runs.history) (totals_text (counters_of new.bus.lanes) (length runs.history)) runs.text
-      (subst (λ (n : ℕ). Appends mid (totals_text (counters_of new.bus.lanes) n) after) runs.entries totals);
+  text = Appends-append before.taken mid.taken after.taken (entry_lines 0 runs.history) (totals_text (counters_of new.bus.lanes) (length runs.history)) runs.text
+      (subst (λ (n : ℕ). Appends mid.taken (totals_text (counters_of new.bus.lanes) n) after.taken) runs.entries totals);
   entries = runs.entries;
   halted = runs.halted;
 }
 
-part_text : (text : List ℕ) (taken : Taken) (error : SinkError) → PutsText text taken (Err error) → AppendsPart taken.before text taken.after
-part_text text taken Fault puts = puts.1
-part_text text taken NoMemory puts = puts
+part_text : (text : List ℕ) (before after : SinkState) (error : SinkError) → PutsText text before after (Err error) → AppendsPart before.taken text after.taken
+part_text text before after Fault puts = puts.1
+part_text text before after NoMemory puts = puts
 
-pub report_part : (race : Bool) (lines : List Line) (old new : BankState) (a : ArrayState) (before mid after : Option (List ℕ)) (f g : ℕ) (ran : Ran) (error : SinkError)
+pub report_part : (race : Bool) (lines : List Line) (old new : BankState) (a : ArrayState) (before mid after : SinkState) (ran : Ran) (error : SinkError)
     → RunsWhole race lines old new a before mid ran
-    → PutsText (totals_text (counters_of new.bus.lanes) ran.entries) (record { before = mid; after = after; faults_before = f; faults_after = g }) (Err error)
+    → PutsText (totals_text (counters_of new.bus.lanes) ran.entries) mid after (Err error)
     → ReportsPart race lines old new a before after
-report_part race lines old new a before mid after f g ran error runs puts = record {
+report_part race lines old new a before mid after ran error runs puts = record {
   history = runs.history;
   count = length lines;
   all = whole_count race;
   is = subst (λ (ls : List Line). IsHistoryOf race ls old new a runs.history) (sym (whole_list lines)) runs.is;
-  text = AppendsPart-append before mid after (entry_lines 0 runs.history) (totals_text (counters_of new.bus.lanes) (length runs.history)) runs.text
-      (subst (λ (n : ℕ). AppendsPart mid (totals_text (counters_of new.bus.lanes) n) after) runs.entries
-      (part_text (totals_text (counters_of new.bus.lanes) ran.entries) (record { before = mid; after = after; faults_before = f; faults_after = g }) error puts));
+  text = AppendsPart-append before.taken mid.taken after.taken (entry_lines 0 runs.history) (totals_text (counters_of new.bus.lanes) (length runs.history)) runs.text
+      (subst (λ (n : ℕ). AppendsPart mid.taken (totals_text (counters_of new.bus.lanes) n) after.taken) runs.entries
+      (part_text (totals_text (counters_of new.bus.lanes) ran.entries) mid after error puts));
 }
   where
     whole_count : (b : Bool) → IsCount b lines (length lines)
@@ -91,46 +89,46 @@ report_part race lines old new a before mid after f g ran error runs puts = reco
     whole_list [] = refl
     whole_list (l ∷ ls) = ap (λ (rest : List Line). l ∷ rest) (whole_list ls)
 
-pub report_stopped : (race : Bool) (lines : List Line) (old new : BankState) (a : ArrayState) (before after : Option (List ℕ)) → RunsPart race lines old new a before after → ReportsPart race lines old new a before after
+pub report_stopped : (race : Bool) (lines : List Line) (old new : BankState) (a : ArrayState) (before after : SinkState) → RunsPart race lines old new a before after → ReportsPart race lines old new a before after
 report_stopped race lines old new a before after runs = record {
   history = runs.history;
   count = runs.count;
   all = runs.all;
   is = runs.is;
-  text = AppendsPart-more before after (entry_lines 0 runs.history) (totals_text (counters_of new.bus.lanes) (length runs.history)) runs.text;
+  text = AppendsPart-more before.taken after.taken (entry_lines 0 runs.history) (totals_text (counters_of new.bus.lanes) (length runs.history)) runs.text;
 }
 
 -- the end of a report, put or not
-pub end_whole : (race : Bool) (lines : List Line) (old new : BankState) (bus : BusState) (a : ArrayState) (before mid after : Option (List ℕ)) (f m g : ℕ) (why : Result Ran RunError) (ran : Ran)
-    → why ≡ Ok ran → new.bus ≡ bus → RunsLines race lines old new a (record { before = before; after = mid; faults_before = f; faults_after = m }) why
-    → Appends mid (totals_text (counters_of bus.lanes) ran.entries) after → ReportsWhole race lines old new a before after ran
-end_whole race lines old new bus a before mid after f m g why ran is same runs totals =
+pub end_whole : (race : Bool) (lines : List Line) (old new : BankState) (bus : BusState) (a : ArrayState) (before mid after : SinkState) (why : Result Ran RunError) (ran : Ran)
+    → why ≡ Ok ran → new.bus ≡ bus → RunsLines race lines old new a before mid why
+    → Appends mid.taken (totals_text (counters_of bus.lanes) ran.entries) after.taken → ReportsWhole race lines old new a before after ran
+end_whole race lines old new bus a before mid after why ran is same runs totals =
     report_whole race lines old new a before mid after ran
-    (subst (λ (r : Result Ran RunError). RunsLines race lines old new a (record { before = before; after = mid; faults_before = f; faults_after = m }) r) is runs)
-    (subst (λ (b : BusState). Appends mid (totals_text (counters_of b.lanes) ran.entries) after) (sym same) totals)
+    (subst (λ (r : Result Ran RunError). RunsLines race lines old new a before mid r) is runs)
+    (subst (λ (b : BusState). Appends mid.taken (totals_text (counters_of b.lanes) ran.entries) after.taken) (sym same) totals)
 
-pub end_part : (race : Bool) (lines : List Line) (old new : BankState) (bus : BusState) (a : ArrayState) (before mid after : Option (List ℕ)) (f m g : ℕ) (why : Result Ran RunError) (ran : Ran) (error : SinkError)
-    → why ≡ Ok ran → new.bus ≡ bus → RunsLines race lines old new a (record { before = before; after = mid; faults_before = f; faults_after = m }) why
-    → PutsText (totals_text (counters_of bus.lanes) ran.entries) (record { before = mid; after = after; faults_before = m; faults_after = g }) (Err error)
+pub end_part : (race : Bool) (lines : List Line) (old new : BankState) (bus : BusState) (a : ArrayState) (before mid after : SinkState) (why : Result Ran RunError) (ran : Ran) (error : SinkError)
+    → why ≡ Ok ran → new.bus ≡ bus → RunsLines race lines old new a before mid why
+    → PutsText (totals_text (counters_of bus.lanes) ran.entries) mid after (Err error)
     → ReportsPart race lines old new a before after
-end_part race lines old new bus a before mid after f m g why ran error is same runs totals =
-    report_part race lines old new a before mid after m g ran error
-    (subst (λ (r : Result Ran RunError). RunsLines race lines old new a (record { before = before; after = mid; faults_before = f; faults_after = m }) r) is runs)
-    (subst (λ (b : BusState). PutsText (totals_text (counters_of b.lanes) ran.entries) (record { before = mid; after = after; faults_before = m; faults_after = g }) (Err error)) (sym same) totals)
+end_part race lines old new bus a before mid after why ran error is same runs totals =
+    report_part race lines old new a before mid after ran error
+    (subst (λ (r : Result Ran RunError). RunsLines race lines old new a before mid r) is runs)
+    (subst (λ (b : BusState). PutsText (totals_text (counters_of b.lanes) ran.entries) mid after (Err error)) (sym same) totals)
 
-pub end_fails : (race : Bool) (text : List ℕ) (before mid after : Option (List ℕ)) (f m g : ℕ) (error : SinkError) → f ≤ m
-    → PutsText text (record { before = mid; after = after; faults_before = m; faults_after = g }) (Err error)
-    → EndsLines race (record { before = before; after = after; faults_before = f; faults_after = g }) (Err (Put error))
-end_fails race text before mid after f m g Fault le puts = let rose = puts.0 in omega arith
-end_fails race text before mid after f m g NoMemory le puts = tt
+pub end_fails : (race : Bool) (text : List ℕ) (before mid after : SinkState) (error : SinkError) → before.faults ≤ mid.faults
+    → PutsText text mid after (Err error)
+    → EndsLines race before after (Err (Put error))
+end_fails race text before mid after Fault le puts = let rose = puts.0 in omega arith
+end_fails race text before mid after NoMemory le puts = tt
 
 -- what was put of the lines is a part of the report, or nothing
-pub reports_failed : (race : Bool) (lines : List Line) (old new : BankState) (a : ArrayState) (taken : Taken) (error : RunError)
-    → RunsLines race lines old new a taken (Err error) → ReportsLines race lines old new a taken (Err error)
-reports_failed race lines old new a taken (Probe e) runs = runs
-reports_failed race lines old new a taken NotBuilt runs = runs
-reports_failed race lines old new a taken Memory runs = runs
-reports_failed race lines old new a taken (Put e) runs = report_stopped race lines old new a taken.before taken.after runs
+pub reports_failed : (race : Bool) (lines : List Line) (old new : BankState) (a : ArrayState) (before after : SinkState) (error : RunError)
+    → RunsLines race lines old new a before after (Err error) → ReportsLines race lines old new a before after (Err error)
+reports_failed race lines old new a before after (Probe e) runs = runs
+reports_failed race lines old new a before after NotBuilt runs = runs
+reports_failed race lines old new a before after Memory runs = runs
+reports_failed race lines old new a before after (Put e) runs = report_stopped race lines old new a before after runs
 
 -- ---- a bank that was just started
 
@@ -139,29 +137,14 @@ size_is b known =
     let first = (known_parts b.found b.bus known 0 (known_some b.found b.bus known)).size in
     sym (ap (λ (n : ℕ). n * length (lane b.bus 0).cells) known.wired.own.count ∙ first)
 
-all_false : (xs : List Bool) → ((n : ℕ) → slice_index_or xs n false ≡ false) → xs ≡ replicate (length xs) false
-all_false [] each = refl
-all_false (x ∷ xs) each =
-    let first : x ≡ false = each 0 in
-    let rest = all_false xs (λ n. each (suc n)) in
-    λ i. first i ∷ rest i
-
-never_first : (set : Set) (offers : Bool) → offers ≡ false → locked_at_first set offers ≡ false
-never_first Intel offers none = none
-never_first Amd offers none = refl
-
 -- the array that it stands for is the opening one
-pub opens : (width : ℕ) (bus : BusState) (b : BankState) → IsStarted width bus b → locks_of b.found.query.extended ≡ false → array_of b ≡ opening_of b.found bus
-opens width bus b is none =
-    let known = is.stands.known in
-    let first = known_parts b.found b.bus known 0 (known_some b.found b.bus known) in
-    let size : size_of b.found ≡ bank_size bus.lanes = size_is b known ∙ ap (λ (chips : List ChipState). bank_size chips) is.lanes in
-    let consts = ap (λ (chips : List ChipState). constants_of b.found chips) is.lanes in
+pub opens : (width : ℕ) (bus : BusState) (b : BankState) → IsStarted width bus b → opening_array b ≡ opening_of b.found bus
+opens width bus b is =
+    let size : size_of b.found ≡ bank_size bus.lanes = size_is b is.stands.known ∙ ap (λ (chips : List ChipState). bank_size chips) is.lanes in
+    let locks : (lane b.bus 0).locks ≡ (lane bus 0).locks = ap (λ (chips : List ChipState). (chip_at chips 0).locks) is.lanes in
+    let consts : constants_of b.found b.bus.lanes (lane b.bus 0).locks ≡ constants_of b.found bus.lanes (lane bus 0).locks = λ i. constants_of b.found (is.lanes i) (locks i) in
     let bytes : bytes_of b 0 (size_of b.found) ≡ bank_bytes b.found.geometry.device bus.lanes 0 (bank_size bus.lanes) =
     λ i. bank_bytes b.found.geometry.device (is.lanes i) 0 (size i) in
-    let locks : (lane b.bus 0).locks ≡ replicate (length (blocks_of b.found)) (locked_at_first b.found.query.set (locks_of b.found.query.extended)) =
-    all_false (lane b.bus 0).locks (first.unlocked none)
-    ∙ (λ i. replicate (first.locks i) (sym (never_first b.found.query.set (locks_of b.found.query.extended) none) i)) in
     let under = ap under_of is.erase in
     let power = ap kept_power is.halted in
     let armed = ap (cut_of b.after) is.unarmed in
@@ -188,7 +171,7 @@ all_sound [] all c below = absurd (omega (arith, below))
 all_sound (s ∷ chips) all zero below = chip_sound s (and_parts (is_sound s) (list_all is_sound chips) all).0
 all_sound (s ∷ chips) all (suc c) below = all_sound chips (and_parts (is_sound s) (list_all is_sound chips) all).1 c (omega (arith, below))
 
-pub can_run : (width : ℕ) (bus : BusState) (b : BankState) → IsStarted width bus b → is_built_bank bus.lanes ≡ true → locks_of b.found.query.extended ≡ false → CanCall b (array_of b)
+pub can_run : (width : ℕ) (bus : BusState) (b : BankState) → IsStarted width bus b → is_built_bank bus.lanes ≡ true → locks_of b.found.query.extended ≡ false → CanCall b (opening_array b)
 can_run width bus b is built none =
     let known = is.stands.known in
     let some = known_some b.found b.bus known in
@@ -219,10 +202,10 @@ holds_bytes b new a closed keeps stands =
           ∙ ap (λ (f : Found). bank_byte f.geometry.device new.bus.lanes p) keeps.found;
     }
 
-pub runs_legally : (race : Bool) (width : ℕ) (bus : BusState) (lines : List Line) (b new : BankState) (es : List Entry) → IsStarted width bus b → locks_of b.found.query.extended ≡ false
-    → KeepsBank b new → IsHistoryOf race lines b new (array_of b) es → RunsLegally race width lines bus new.bus b.found es
-runs_legally race width bus lines b new es is none keeps history =
-    let open_ = opens width bus b is none in
+pub runs_legally : (race : Bool) (width : ℕ) (bus : BusState) (lines : List Line) (b new : BankState) (es : List Entry) → IsStarted width bus b
+    → KeepsBank b new → IsHistoryOf race lines b new (opening_array b) es → RunsLegally race width lines bus new.bus b.found es
+runs_legally race width bus lines b new es is keeps history =
+    let open_ = opens width bus b is in
     record {
       is_found = is.is_found;
       legal = subst (λ (f : Facts). Legal f (opening_of b.found bus) es) (same_facts width bus b is)
@@ -233,66 +216,66 @@ runs_legally race width bus lines b new es is none keeps history =
           subst (λ (chips : List ChipState). Lasts (chip_at chips c) (lane new.bus c)) is.lanes
           (history.lasts c (subst (λ (chips : List ChipState). c < length chips) (sym is.lanes) below));
       holds = subst (λ (a : ArrayState). HoldsBytes b.found new.bus (after_all a es)) open_
-          (holds_bytes b new (after_all (array_of b) es) is.erase keeps history.stands);
+          (holds_bytes b new (after_all (opening_array b) es) is.erase keeps history.stands);
     }
 
 -- ---- what was put
 
-reports_as : (race : Bool) (width : ℕ) (bus : BusState) (lines : List Line) (b new : BankState) (taken : Taken) (result : Result Ran RunError)
-    → IsStarted width bus b → locks_of b.found.query.extended ≡ false → KeepsBank b new → ReportsLines race lines b new (array_of b) taken result
-    → Reports race width lines bus new.bus taken result
-reports_as race width bus lines b new taken (Ok ran) is none keeps told = record {
+reports_as : (race : Bool) (width : ℕ) (bus : BusState) (lines : List Line) (b new : BankState) (before after : SinkState) (result : Result Ran RunError)
+    → IsStarted width bus b → KeepsBank b new → ReportsLines race lines b new (opening_array b) before after result
+    → Reports race width lines bus new.bus before after result
+reports_as race width bus lines b new before after (Ok ran) is keeps told = record {
   found = b.found;
   history = told.history;
-  runs = runs_legally race width bus lines b new told.history is none keeps told.is;
+  runs = runs_legally race width bus lines b new told.history is keeps told.is;
   text = told.text;
   entries = told.entries;
   halted = told.halted;
 }
-reports_as race width bus lines b new taken (Err (Probe error)) is none keeps told = tt
-reports_as race width bus lines b new taken (Err NotBuilt) is none keeps told = tt
-reports_as race width bus lines b new taken (Err Memory) is none keeps told = tt
-reports_as race width bus lines b new taken (Err (Put error)) is none keeps told = record {
+reports_as race width bus lines b new before after (Err (Probe error)) is keeps told = tt
+reports_as race width bus lines b new before after (Err NotBuilt) is keeps told = tt
+reports_as race width bus lines b new before after (Err Memory) is keeps told = tt
+reports_as race width bus lines b new before after (Err (Put error)) is keeps told = record {
   found = b.found;
   history = told.history;
   count = told.count;
   all = told.all;
-  runs = runs_legally race width bus (take told.count lines) b new told.history is none keeps told.is;
+  runs = runs_legally race width bus (take told.count lines) b new told.history is keeps told.is;
   text = told.text;
 }
 
-pub reports : (race : Bool) (width : ℕ) (bus : BusState) (lines : List Line) (b new : BankState) (after : BusState) (taken : Taken) (result : Result Ran RunError)
-    → Starts width bus b → after ≡ new.bus → KeepsBank b new
-    → ((a : ArrayState) → CanCall b a → ReportsLines race lines b new a taken result)
-    → AllLanes ShowsQry bus → Reports race width lines bus after taken result
-reports race width bus lines b new after taken result starts same keeps told qry =
+pub reports : (race : Bool) (width : ℕ) (bus : BusState) (lines : List Line) (b new : BankState) (stopped : BusState) (before after : SinkState) (result : Result Ran RunError)
+    → Starts width bus b → stopped ≡ new.bus → KeepsBank b new
+    → ((a : ArrayState) → CanCall b a → ReportsLines race lines b new a before after result)
+    → AllLanes ShowsQry bus → Reports race width lines bus stopped before after result
+reports race width bus lines b new stopped before after result starts same keeps told qry =
     let is = starts.started qry in
-    subst (λ (x : BusState). Reports race width lines bus x taken result) (sym same)
-    (reports_as race width bus lines b new taken result is starts.locks keeps (told (array_of b) (can_run width bus b is starts.built starts.locks)))
+    subst (λ (x : BusState). Reports race width lines bus x before after result) (sym same)
+    (reports_as race width bus lines b new before after result is keeps (told (opening_array b) (can_run width bus b is starts.built starts.locks)))
 
-pub ends_run : (race : Bool) (width : ℕ) (bus : BusState) (b : BankState) (taken : Taken) (result : Result Ran RunError) → Starts width bus b → EndsLines race taken result
-    → EndsRun race width bus.lanes taken result
-ends_run race width bus b taken (Ok ran) starts ends = (starts.built, record { found = b.found; is_found = starts.is_found; locks = starts.locks })
-ends_run race width bus b taken (Err (Probe error)) starts ends = absurd ends
-ends_run race width bus b taken (Err NotBuilt) starts ends = absurd ends
-ends_run race width bus b taken (Err Memory) starts ends = (starts.built, record { found = b.found; is_found = starts.is_found; locks = starts.locks }, ends.0, ends.1)
-ends_run race width bus b taken (Err (Put Fault)) starts ends = (starts.built, record { found = b.found; is_found = starts.is_found; locks = starts.locks }, ends)
-ends_run race width bus b taken (Err (Put NoMemory)) starts ends = (starts.built, record { found = b.found; is_found = starts.is_found; locks = starts.locks })
+pub ends_run : (race : Bool) (width : ℕ) (bus : BusState) (b : BankState) (before after : SinkState) (result : Result Ran RunError) → Starts width bus b → EndsLines race before after result
+    → EndsRun race width bus.lanes before after result
+ends_run race width bus b before after (Ok ran) starts ends = (starts.built, record { found = b.found; is_found = starts.is_found; locks = starts.locks })
+ends_run race width bus b before after (Err (Probe error)) starts ends = absurd ends
+ends_run race width bus b before after (Err NotBuilt) starts ends = absurd ends
+ends_run race width bus b before after (Err Memory) starts ends = (starts.built, record { found = b.found; is_found = starts.is_found; locks = starts.locks }, ends.0, ends.1)
+ends_run race width bus b before after (Err (Put Fault)) starts ends = (starts.built, record { found = b.found; is_found = starts.is_found; locks = starts.locks }, ends)
+ends_run race width bus b before after (Err (Put NoMemory)) starts ends = (starts.built, record { found = b.found; is_found = starts.is_found; locks = starts.locks })
 
 -- a bank that wasn't started: nothing is put
-pub refuses_run : (race : Bool) (width : ℕ) (chips : List ChipState) (before : Option (List ℕ)) (f : ℕ) (error : RunError) → Refuses width chips error
-    → EndsRun race width chips (record { before = before; after = before; faults_before = f; faults_after = f }) (Err error)
-refuses_run race width chips before f (Probe error) why = (why.0, why.1, why.2, record { text = refl; faults = refl })
-refuses_run race width chips before f NotBuilt why = (why, record { text = refl; faults = refl })
-refuses_run race width chips before f Memory why = absurd why
-refuses_run race width chips before f (Put error) why = absurd why
+pub refuses_run : (race : Bool) (width : ℕ) (chips : List ChipState) (before : SinkState) (error : RunError) → Refuses width chips error
+    → EndsRun race width chips before before (Err error)
+refuses_run race width chips before (Probe error) why = (why.0, why.1, why.2, refl)
+refuses_run race width chips before NotBuilt why = (why, refl)
+refuses_run race width chips before Memory why = absurd why
+refuses_run race width chips before (Put error) why = absurd why
 
-pub refused_reports : (race : Bool) (width : ℕ) (lines : List Line) (chips : List ChipState) (old new : BusState) (taken : Taken) (error : RunError) → Refuses width chips error
-    → Reports race width lines old new taken (Err error)
-refused_reports race width lines chips old new taken (Probe error) why = tt
-refused_reports race width lines chips old new taken NotBuilt why = tt
-refused_reports race width lines chips old new taken Memory why = tt
-refused_reports race width lines chips old new taken (Put error) why = absurd why
+pub refused_reports : (race : Bool) (width : ℕ) (lines : List Line) (chips : List ChipState) (old new : BusState) (before after : SinkState) (error : RunError) → Refuses width chips error
+    → Reports race width lines old new before after (Err error)
+refused_reports race width lines chips old new before after (Probe error) why = tt
+refused_reports race width lines chips old new before after NotBuilt why = tt
+refused_reports race width lines chips old new before after Memory why = tt
+refused_reports race width lines chips old new before after (Put error) why = absurd why
 
 pub keeps_lanes : (bus after : BusState) (width : ℕ) (b new : BankState) → Starts width bus b → KeepsBank b new → after ≡ new.bus → KeepsLanes bus after
 keeps_lanes bus after width b new starts keeps same =
@@ -301,7 +284,7 @@ keeps_lanes bus after width b new starts keeps same =
 -- what starting leaves of it
 pub starts_so : (width : ℕ) (bus : BusState) (b : BankState) (loaded : IsJustLoaded width bus) → AllLanes IsChip bus → AllLanes ShowsQry bus
     → IsFoundOn width bus.lanes b.found → (b.halted ≡ None) × (b.erase ≡ None) × (b.after ≡ 0)
-    → EachLane Resets bus b.bus → Counted 524 bus b.bus → ((g : Geometry) → CanStart width g bus → Stands b (array_of b)) → IsStarted width bus b
+    → EachLane Resets bus b.bus → Counted 0 524 bus b.bus → ((g : Geometry) → CanStart width g bus → Stands b (opening_array b)) → IsStarted width bus b
 starts_so width bus b loaded ranges qry found fresh resets counted stands = record {
   is_found = found;
   lanes = same_lanes bus b.bus counted.went.kept.count (λ c below. (loaded.chips c below).quiet) resets;
@@ -325,14 +308,38 @@ refused_as width bus new error loaded refused lost = refused (λ is. never_lost 
 
 -- ---- the file of the bank
 
-pub image_reports : (race : Bool) (width w : ℕ) (lines : List Line) (old new : BusState) (taken : Taken) (ran : Ran) (result : Result Ran RunError) (file : List ℕ)
-    → w ≡ width → (device : Device) → IsBank width device old.lanes → AreStorable old.lanes → KeepsLanes old new → result ≡ Ok ran
-    → Reports race width lines old new taken result → file ≡ file_of w new.lanes → Stores file w new.lanes
-    → RunsImage race width lines old taken.before taken.after ran file
-image_reports race width w lines old new taken ran result file same device bank storable keeps is told spelled stores =
+pub from_file : (loaded : Loaded) → IsLoaded loaded → IsJustLoaded (loaded_width loaded) (bus_of loaded)
+from_file loaded is = record {
+  device = device_of is.file;
+  bank = is.bank;
+  fresh = is.fresh;
+  storable = is.storable;
+  agree = is.agree;
+  chips = λ k below. just_loaded is.file (loaded_width loaded) (bus_of loaded).lanes k is.image below;
+}
+
+-- as many bytes as its file
+pub fits_file : (bytes : List ℕ) (loaded after : Loaded) → IsLoaded loaded → HasRoom bytes loaded → loaded_width after ≡ loaded_width loaded → KeepsLanes (bus_of loaded) (bus_of after)
+    → HasRoom bytes after
+fits_file bytes loaded after is room same keeps =
+    room
+    ∙ (sym (file_length (loaded_width loaded) (bus_of loaded) (bus_of after) (some_lane (loaded_width loaded) (device_of is.file) (bus_of loaded).lanes is.bank) keeps)
+    ∙ ap (λ (w : ℕ). length (file_of w (bus_of after).lanes)) (sym same))
+
+pub image_reports : (race : Bool) (lines : List Line) (loaded after : Loaded) (was now : SinkState) (ran : Ran) (result : Result Ran RunError) (file : List ℕ)
+    → IsLoaded loaded → loaded_width after ≡ loaded_width loaded → KeepsLanes (bus_of loaded) (bus_of after) → result ≡ Ok ran
+    → Reports race (loaded_width loaded) lines (bus_of loaded) (bus_of after) was now result
+    → file ≡ file_of (loaded_width after) (bus_of after).lanes → Stores file (loaded_width after) (bus_of after).lanes
+    → RunsImage race (loaded_width loaded) lines (bus_of loaded) was now ran file
+image_reports race lines loaded after was now ran result file is same keeps ok told spelled stores =
+    let old = bus_of loaded in
+    let new = bus_of after in
+    let some = some_lane (loaded_width loaded) (device_of is.file) old.lanes is.bank in
+    let runs = subst (λ (r : Result Ran RunError). Reports race (loaded_width loaded) lines old new was now r) ok told in
     record {
       new = new;
-      runs = subst (λ (r : Result Ran RunError). Reports race width lines old new taken r) is told;
+      runs = runs;
       spelled = spelled ∙ ap (λ (n : ℕ). file_of n new.lanes) same;
-      image = subst (λ (n : ℕ). IsImageOf file n (map powered new.lanes)) same (stores (still_storable old new (some_lane width device old.lanes bank) keeps storable));
+      image = subst (λ (n : ℕ). IsImageOf file n (map powered new.lanes)) same
+          (stores (record { storable = still_storable old new some keeps is.storable; agree = still_agree old new some runs.runs.count runs.runs.lasts is.agree }));
     }

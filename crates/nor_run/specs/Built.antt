@@ -3,16 +3,17 @@ use Rattle.std.specs.Prelude.{List, length, Bool, true, false, not, ◌==◌, �
 use Rattle.std.specs.List.{list_all}
 use Rattle.nor_cell.specs.Chip.{ChipState}
 use Rattle.nor_array.specs.declared.entry.Op.{Op}
-use Rattle.nor_array.specs.declared.entry.Op.TheVariants.{Read, Program, EraseOpen, Poll, Lock, Unlock, IsLocked, Arm, PowerOn}
+use Rattle.nor_array.specs.declared.entry.Op.TheVariants.{Read, Program, EraseOpen, EraseAll, Poll, Lock, Unlock, IsLocked, Arm, PowerOn}
 use Rattle.nor_script.specs.declared.line.Line.{Line}
 use Rattle.nor_script.specs.declared.line.Word.{Word}
-use Rattle.nor_script.specs.declared.line.Word.TheVariants.{Call, Erase}
+use Rattle.nor_script.specs.declared.line.Word.TheVariants.{Call, Erase, EraseAll as EraseAllLine}
 
 -- the call is a read or a program
 abbrev pub is_built_call : Op → Bool
 is_built_call (Read at len) = true
 is_built_call (Program at new) = true
 is_built_call (EraseOpen b) = false
+is_built_call EraseAll = false
 is_built_call Poll = false
 is_built_call (Lock b) = false
 is_built_call (Unlock b) = false
@@ -23,6 +24,7 @@ is_built_call PowerOn = false
 abbrev pub is_built_word : Word → Bool
 is_built_word (Call op) = is_built_call op
 is_built_word (Erase b) = false
+is_built_word EraseAllLine = false
 
 -- every line reads or programs
 abbrev pub are_built : List Line → Bool

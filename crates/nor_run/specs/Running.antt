@@ -1,5 +1,5 @@
 -- What running the lines of a script makes of a bank.
-use Rattle.std.specs.Prelude.{◌≡◌, ℕ, List, length, take, map, Bool, true, false, Option, Result, Ok, Err}
+use Rattle.std.specs.Prelude.{◌≡◌, ℕ, List, length, take, map, Bool, true, false, Result, Ok, Err}
 use Rattle.std.specs.List.{list_any}
 use Rattle.nor_cell.specs.Chip.{ChipState}
 use Rattle.nor_bus.specs.Driven.{EachLane}
@@ -10,16 +10,15 @@ use Rattle.nor_array.specs.declared.entry.Entry.{Entry}
 use Rattle.nor_array.specs.declared.entry.Op.{Op}
 use Rattle.nor_array.specs.declared.entry.Reply.{Reply}
 use Rattle.nor_array.specs.declared.entry.Reply.TheVariants.{Halted}
-use Rattle.nor_io.specs.Files.{Rose, Appends, AppendsPart}
+use Rattle.nor_io.specs.Files.{SinkState, Rose, Appends, AppendsPart}
 use Rattle.nor_io.specs.declared.sink.SinkError.{SinkError}
 use Rattle.nor_io.specs.declared.sink.SinkError.TheVariants.{Fault, NoMemory}
 use Rattle.nor_array.specs.Entries.{IsOf}
 use Rattle.nor_script.specs.Answering.{Answers}
-use Rattle.nor_script.specs.Puts.{Taken}
 use Rattle.nor_script.specs.Report.{entry_line, entry_lines, report_text}
 use Rattle.nor_script.specs.declared.line.Line.{Line}
 use Rattle.nor_script.specs.declared.line.Word.{Word}
-use Rattle.nor_script.specs.declared.line.Word.TheVariants.{Call, Erase}
+use Rattle.nor_script.specs.declared.line.Word.TheVariants.{Call, Erase, EraseAll}
 use Rattle.nor_bank.specs.Calls.{MakesEntry, facts_of}
 use Rattle.nor_bank.specs.Programs.{Lasts}
 use Rattle.nor_bank.specs.Stands.{Stands}
@@ -31,26 +30,27 @@ use Rattle.nor_run.specs.declared.lines.Ran.{Ran}
 -- ---- one line
 
 -- A text that tells a reply was put; or the sink failed, which its count tells, or lacked memory, and then a first part was.
-abbrev pub PutsReply : List ℕ → Reply → Taken → Result Reply SinkError → Type 0
-PutsReply text reply taken (Ok told) = (told ≡ reply) × Appends taken.before text taken.after
-PutsReply text reply taken (Err Fault) = Rose taken.faults_before taken.faults_after × AppendsPart taken.before text taken.after
-PutsReply text reply taken (Err NoMemory) = AppendsPart taken.before text taken.after
+abbrev pub PutsReply : List ℕ → Reply → (before after : SinkState) → Result Reply SinkError → Type 0
+PutsReply text reply before after (Ok told) = (told ≡ reply) × Appends before.taken text after.taken
+PutsReply text reply before after (Err Fault) = Rose before.faults after.faults × AppendsPart before.taken text after.taken
+PutsReply text reply before after (Err NoMemory) = AppendsPart before.taken text after.taken
 
 abbrev pub line_of_entry : ℕ → Entry → List ℕ
 line_of_entry position e = entry_line position e.caller e.op e.reply e.bytes
 
 -- A call was made and its entry put: the array admits it, and the bank stands for the array after it.
-pub record RunsCall (caller : ℕ) (op : Op) (position : ℕ) (old new : BankState) (a : ArrayState) (taken : Taken) (result : Result Reply SinkError) : Type 0 where
+pub record RunsCall (caller : ℕ) (op : Op) (position : ℕ) (old new : BankState) (a : ArrayState) (before after : SinkState) (result : Result Reply SinkError) : Type 0 where
   pub entry : Entry
   pub is : IsOf caller op entry
   pub makes : MakesEntry old new entry a
   pub lasts : EachLane Lasts old.bus new.bus
-  pub puts : PutsReply (line_of_entry position entry) entry.reply taken result
+  pub puts : PutsReply (line_of_entry position entry) entry.reply before after result
 
 -- The call of a line was made so; no other line is built.
-abbrev pub RunsWord : Word → ℕ → ℕ → (old new : BankState) → ArrayState → Taken → Result Reply SinkError → Type 0
-RunsWord (Call op) caller position old new a taken result = RunsCall caller op position old new a taken result
-RunsWord (Erase b) caller position old new a taken result = ⊥
+abbrev pub RunsWord : Word → ℕ → ℕ → (old new : BankState) → ArrayState → (before after : SinkState) → Result Reply SinkError → Type 0
+RunsWord (Call op) caller position old new a before after result = RunsCall caller op position old new a before after result
+RunsWord (Erase b) caller position old new a before after result = ⊥
+RunsWord EraseAll caller position old new a before after result = ⊥
 
 -- ---- all lines
 
@@ -71,10 +71,10 @@ pub record IsHistoryOf (race : Bool) (lines : List Line) (old new : BankState) (
   pub lasts : EachLane Lasts old.bus new.bus
 
 -- All lines were run, and the history put.
-pub record RunsWhole (race : Bool) (lines : List Line) (old new : BankState) (a : ArrayState) (before after : Option (List ℕ)) (ran : Ran) : Type 0 where
+pub record RunsWhole (race : Bool) (lines : List Line) (old new : BankState) (a : ArrayState) (before after : SinkState) (ran : Ran) : Type 0 where
   pub history : List Entry
   pub is : IsHistoryOf race lines old new a history
-  pub text : Appends before (entry_lines 0 history) after
+  pub text : Appends before.taken (entry_lines 0 history) after.taken
   pub entries : ran.entries ≡ length history
   pub halted : ran.halted ≡ has_halt history
 
@@ -83,35 +83,34 @@ abbrev pub IsCount : (race : Bool) → List Line → ℕ → Type 0
 IsCount false lines count = Unit {0}
 IsCount true lines count = count ≡ length lines
 
--- The first lines were run, up to one whose entry wasn't put whole.
-pub record RunsPart (race : Bool) (lines : List Line) (old new : BankState) (a : ArrayState) (before after : Option (List ℕ)) : Type 0 where
+-- Entries were put up to one that wasn't put whole: those of the first lines, or in a race those of all.
+pub record RunsPart (race : Bool) (lines : List Line) (old new : BankState) (a : ArrayState) (before after : SinkState) : Type 0 where
   pub history : List Entry
   pub count : ℕ
   pub all : IsCount race lines count
   pub is : IsHistoryOf race (take count lines) old new a history
-  pub text : AppendsPart before (entry_lines 0 history) after
+  pub text : AppendsPart before.taken (entry_lines 0 history) after.taken
 
 -- What was run, and put: all, or a part.
-abbrev pub RunsLines : (race : Bool) → List Line → (old new : BankState) → ArrayState → Taken → Result Ran RunError → Type 0
-RunsLines race lines old new a taken (Ok ran) = RunsWhole race lines old new a taken.before taken.after ran
-RunsLines race lines old new a taken (Err (Probe error)) = ⊥
-RunsLines race lines old new a taken (Err NotBuilt) = ⊥
-RunsLines race lines old new a taken (Err Memory) = Unit {0}
-RunsLines race lines old new a taken (Err (Put error)) = RunsPart race lines old new a taken.before taken.after
+abbrev pub RunsLines : (race : Bool) → List Line → (old new : BankState) → ArrayState → (before after : SinkState) → Result Ran RunError → Type 0
+RunsLines race lines old new a before after (Ok ran) = RunsWhole race lines old new a before after ran
+RunsLines race lines old new a before after (Err (Probe error)) = ⊥
+RunsLines race lines old new a before after (Err NotBuilt) = ⊥
+RunsLines race lines old new a before after (Err Memory) = Unit {0}
+RunsLines race lines old new a before after (Err (Put error)) = RunsPart race lines old new a before after
 
 -- nothing was put
-pub record Untouched (taken : Taken) : Type 0 where
-  pub text : taken.after ≡ taken.before
-  pub faults : taken.faults_after ≡ taken.faults_before
+abbrev pub Untouched : (before after : SinkState) → Type 0
+Untouched before after = after ≡ before
 
 -- Why not all was put: a race may want memory, and then nothing was; or it comes from the sink.
-abbrev pub EndsLines : (race : Bool) → Taken → Result Ran RunError → Type 0
-EndsLines race taken (Ok ran) = Unit {0}
-EndsLines race taken (Err (Probe error)) = ⊥
-EndsLines race taken (Err NotBuilt) = ⊥
-EndsLines race taken (Err Memory) = (race ≡ true) × Untouched taken
-EndsLines race taken (Err (Put Fault)) = Rose taken.faults_before taken.faults_after
-EndsLines race taken (Err (Put NoMemory)) = Unit {0}
+abbrev pub EndsLines : (race : Bool) → (before after : SinkState) → Result Ran RunError → Type 0
+EndsLines race before after (Ok ran) = Unit {0}
+EndsLines race before after (Err (Probe error)) = ⊥
+EndsLines race before after (Err NotBuilt) = ⊥
+EndsLines race before after (Err Memory) = (race ≡ true) × Untouched before after
+EndsLines race before after (Err (Put Fault)) = Rose before.faults after.faults
+EndsLines race before after (Err (Put NoMemory)) = Unit {0}
 
 -- ---- with the chips' counters at the end
 
@@ -120,25 +119,25 @@ abbrev pub counters_of : List ChipState → List (ℕ × ℕ)
 counters_of chips = map (λ (s : ChipState). (s.suspends, s.erases)) chips
 
 -- All lines were run, and the report put.
-pub record ReportsWhole (race : Bool) (lines : List Line) (old new : BankState) (a : ArrayState) (before after : Option (List ℕ)) (ran : Ran) : Type 0 where
+pub record ReportsWhole (race : Bool) (lines : List Line) (old new : BankState) (a : ArrayState) (before after : SinkState) (ran : Ran) : Type 0 where
   pub history : List Entry
   pub is : IsHistoryOf race lines old new a history
-  pub text : Appends before (report_text history (counters_of new.bus.lanes)) after
+  pub text : Appends before.taken (report_text history (counters_of new.bus.lanes)) after.taken
   pub entries : ran.entries ≡ length history
   pub halted : ran.halted ≡ has_halt history
 
--- The first lines were run, and the report of their history wasn't put whole.
-pub record ReportsPart (race : Bool) (lines : List Line) (old new : BankState) (a : ArrayState) (before after : Option (List ℕ)) : Type 0 where
+-- The first lines were run, or in a race all, and the report of their history wasn't put whole.
+pub record ReportsPart (race : Bool) (lines : List Line) (old new : BankState) (a : ArrayState) (before after : SinkState) : Type 0 where
   pub history : List Entry
   pub count : ℕ
   pub all : IsCount race lines count
   pub is : IsHistoryOf race (take count lines) old new a history
-  pub text : AppendsPart before (report_text history (counters_of new.bus.lanes)) after
+  pub text : AppendsPart before.taken (report_text history (counters_of new.bus.lanes)) after.taken
 
 -- What was put of the report.
-abbrev pub ReportsLines : (race : Bool) → List Line → (old new : BankState) → ArrayState → Taken → Result Ran RunError → Type 0
-ReportsLines race lines old new a taken (Ok ran) = ReportsWhole race lines old new a taken.before taken.after ran
-ReportsLines race lines old new a taken (Err (Probe error)) = ⊥
-ReportsLines race lines old new a taken (Err NotBuilt) = ⊥
-ReportsLines race lines old new a taken (Err Memory) = Unit {0}
-ReportsLines race lines old new a taken (Err (Put error)) = ReportsPart race lines old new a taken.before taken.after
+abbrev pub ReportsLines : (race : Bool) → List Line → (old new : BankState) → ArrayState → (before after : SinkState) → Result Ran RunError → Type 0
+ReportsLines race lines old new a before after (Ok ran) = ReportsWhole race lines old new a before after ran
+ReportsLines race lines old new a before after (Err (Probe error)) = ⊥
+ReportsLines race lines old new a before after (Err NotBuilt) = ⊥
+ReportsLines race lines old new a before after (Err Memory) = Unit {0}
+ReportsLines race lines old new a before after (Err (Put error)) = ReportsPart race lines old new a before after

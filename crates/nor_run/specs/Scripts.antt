@@ -1,9 +1,9 @@
 -- What running a script on a bank that was just loaded makes.
-use Rattle.std.specs.Prelude.{◌≡◌, ◌≢◌, ◌<◌, ◌⊎◌, ℕ, List, length, map, take, replicate, Result, Ok, Err, slice_index, Bool, true, false, Option, Some, None}
+use Rattle.std.specs.Prelude.{◌≡◌, ◌≢◌, ◌<◌, ◌⊎◌, ℕ, List, length, map, take, Result, Ok, Err, slice_index, Bool, true, false, Some, None}
 use Rattle.nor_cell.specs.Chip.{ChipState}
 use Rattle.nor_cell.specs.Power.{powered, locks_after}
 use Rattle.nor_cell.specs.declared.device.Device.{Device}
-use Rattle.nor_bus.specs.Bus.{BusState, IsBank, lanes_of, bank_byte, bank_bytes, bank_size}
+use Rattle.nor_bus.specs.Bus.{BusState, IsBank, lane, lanes_of, bank_byte, bank_bytes, bank_size}
 use Rattle.nor_bus.specs.Driven.{AllLanes, EachLane}
 use Rattle.nor_query.specs.Derived.{locks_of}
 use Rattle.nor_probe.specs.Probed.{refusal, IsFoundOn}
@@ -17,16 +17,15 @@ use Rattle.nor_array.specs.declared.entry.Entry.{Entry}
 use Rattle.nor_script.specs.Answering.{Answers}
 use Rattle.nor_script.specs.Report.{report_text}
 use Rattle.nor_script.specs.declared.line.Line.{Line}
-use Rattle.nor_io.specs.Files.{Rose, Appends, AppendsPart}
+use Rattle.nor_io.specs.Files.{SinkState, Rose, Appends, AppendsPart}
 use Rattle.nor_io.specs.declared.sink.SinkError.TheVariants.{Fault, NoMemory}
-use Rattle.nor_script.specs.Puts.{Taken}
 use Rattle.nor_bank.specs.Calls.{facts_of}
 use Rattle.nor_bank.specs.Programs.{Lasts}
 use Rattle.nor_bank.specs.Stands.{IsQuiet, constants_of}
 use Rattle.nor_bank.specs.State.{BankState}
 use Rattle.nor_image.specs.Image.{IsImageOf, device_of}
 use Rattle.nor_image.specs.Loaded.{bus_of, loaded_width, IsFreshBus}
-use Rattle.nor_image.specs.Written.{file_of, AreStorable}
+use Rattle.nor_image.specs.Written.{file_of, AreStorable, AgreeOnLocks}
 use Rattle.nor_image.specs.declared.loaded.Loaded.{Loaded}
 use Rattle.nor_run.specs.declared.error.RunError.{RunError}
 use Rattle.nor_run.specs.declared.error.RunError.TheVariants.{Probe, NotBuilt, NoMemory as Memory, Put}
@@ -38,9 +37,9 @@ use Rattle.nor_run.specs.declared.lines.Ran.{Ran}
 abbrev pub started : Found → BusState → BankState
 started found bus = record { bus = bus; found = found; halted = None; erase = None; after = 0 }
 
--- the array that it opens with
+-- the array that it opens with: the cells' bytes and the chips' locks
 abbrev pub opening_of : Found → BusState → ArrayState
-opening_of found bus = opening (constants_of found bus.lanes) (bank_bytes found.geometry.device bus.lanes 0 (bank_size bus.lanes))
+opening_of found bus = opening (constants_of found bus.lanes (lane bus 0).locks) (bank_bytes found.geometry.device bus.lanes 0 (bank_size bus.lanes))
 
 -- The cells are the bytes of the array.
 pub record HoldsBytes (found : Found) (bus : BusState) (a : ArrayState) : Type 0 where
@@ -58,22 +57,22 @@ pub record RunsLegally (race : Bool) (width : ℕ) (lines : List Line) (old new 
   pub holds : HoldsBytes found new (after_all (opening_of found old) es)
 
 -- All lines were run so, and the report of the history was put.
-pub record RunsScript (race : Bool) (width : ℕ) (lines : List Line) (old new : BusState) (before after : Option (List ℕ)) (ran : Ran) : Type 0 where
+pub record RunsScript (race : Bool) (width : ℕ) (lines : List Line) (old new : BusState) (before after : SinkState) (ran : Ran) : Type 0 where
   pub found : Found
   pub history : List Entry
   pub runs : RunsLegally race width lines old new found history
-  pub text : Appends before (report_text history (counters_of new.lanes)) after
+  pub text : Appends before.taken (report_text history (counters_of new.lanes)) after.taken
   pub entries : ran.entries ≡ length history
   pub halted : ran.halted ≡ has_halt history
 
 -- A first part of the report of such a history was put, whose lines are the first of the script.
-pub record RunsPartly (race : Bool) (width : ℕ) (lines : List Line) (old new : BusState) (before after : Option (List ℕ)) : Type 0 where
+pub record RunsPartly (race : Bool) (width : ℕ) (lines : List Line) (old new : BusState) (before after : SinkState) : Type 0 where
   pub found : Found
   pub history : List Entry
   pub count : ℕ
   pub all : IsCount race lines count
   pub runs : RunsLegally race width (take count lines) old new found history
-  pub text : AppendsPart before (report_text history (counters_of new.lanes)) after
+  pub text : AppendsPart before.taken (report_text history (counters_of new.lanes)) after.taken
 
 -- ---- how it ends
 
@@ -83,59 +82,67 @@ pub record HasLocks (width : ℕ) (chips : List ChipState) (offers : Bool) : Typ
   pub is_found : IsFoundOn width chips found
   pub locks : locks_of found.query.extended ≡ offers
 
--- Why a bank of these chips is run, or not: running isn't built for its chips, probing refuses it, or its table offers locks.
-abbrev pub EndsRun : (race : Bool) → ℕ → List ChipState → Taken → Result Ran RunError → Type 0
-EndsRun race width chips taken (Ok ran) = (is_built_bank chips ≡ true) × HasLocks width chips false
-EndsRun race width chips taken (Err (Probe error)) = (is_built_bank chips ≡ true) × (refusal width chips ≡ Some error) × (error ≢ LostPower) × Untouched taken
-EndsRun race width chips taken (Err NotBuilt) = ((is_built_bank chips ≡ false) ⊎ ((is_built_bank chips ≡ true) × HasLocks width chips true)) × Untouched taken
-EndsRun race width chips taken (Err Memory) = (is_built_bank chips ≡ true) × HasLocks width chips false × (race ≡ true) × Untouched taken
-EndsRun race width chips taken (Err (Put Fault)) = (is_built_bank chips ≡ true) × HasLocks width chips false × Rose taken.faults_before taken.faults_after
-EndsRun race width chips taken (Err (Put NoMemory)) = (is_built_bank chips ≡ true) × HasLocks width chips false
+-- Why a bank of these chips is run, or not: running isn't built for its chips, probing refuses it, its table offers locks, or
+-- a race wants memory.
+abbrev pub EndsRun : (race : Bool) → ℕ → List ChipState → (before after : SinkState) → Result Ran RunError → Type 0
+EndsRun race width chips before after (Ok ran) = (is_built_bank chips ≡ true) × HasLocks width chips false
+EndsRun race width chips before after (Err (Probe error)) = (is_built_bank chips ≡ true) × (refusal width chips ≡ Some error) × (error ≢ LostPower) × Untouched before after
+EndsRun race width chips before after (Err NotBuilt) = ((is_built_bank chips ≡ false) ⊎ ((is_built_bank chips ≡ true) × HasLocks width chips true)) × Untouched before after
+EndsRun race width chips before after (Err Memory) = (is_built_bank chips ≡ true) × HasLocks width chips false × (race ≡ true) × Untouched before after
+EndsRun race width chips before after (Err (Put Fault)) = (is_built_bank chips ≡ true) × HasLocks width chips false × Rose before.faults after.faults
+EndsRun race width chips before after (Err (Put NoMemory)) = (is_built_bank chips ≡ true) × HasLocks width chips false
 
 -- What was put of a run, whole or in part.
-abbrev pub Reports : (race : Bool) → ℕ → List Line → (old new : BusState) → Taken → Result Ran RunError → Type 0
-Reports race width lines old new taken (Ok ran) = RunsScript race width lines old new taken.before taken.after ran
-Reports race width lines old new taken (Err (Probe error)) = Unit {0}
-Reports race width lines old new taken (Err NotBuilt) = Unit {0}
-Reports race width lines old new taken (Err Memory) = Unit {0}
-Reports race width lines old new taken (Err (Put error)) = RunsPartly race width lines old new taken.before taken.after
+abbrev pub Reports : (race : Bool) → ℕ → List Line → (old new : BusState) → (before after : SinkState) → Result Ran RunError → Type 0
+Reports race width lines old new before after (Ok ran) = RunsScript race width lines old new before after ran
+Reports race width lines old new before after (Err (Probe error)) = Unit {0}
+Reports race width lines old new before after (Err NotBuilt) = Unit {0}
+Reports race width lines old new before after (Err Memory) = Unit {0}
+Reports race width lines old new before after (Err (Put error)) = RunsPartly race width lines old new before after
 
 -- ---- a bank that was just loaded
 
--- Nothing is under way, and the locks are as after power-on.
+-- Nothing is under way, and the locks are as power-on leaves them.
 pub record IsJustPowered (s : ChipState) : Type 0 where
   pub quiet : IsQuiet s
-  pub locks : s.locks ≡ locks_after s.part.set s.part.table (replicate (length s.part.blocks) false)
+  pub locks : s.locks ≡ locks_after s.part.set s.part.table s.locks
 
 pub record IsJustLoaded (width : ℕ) (bus : BusState) : Type 0 where
   pub device : Device
   pub bank : IsBank width device bus.lanes
   pub fresh : IsFreshBus bus
   pub storable : AreStorable bus.lanes
+  pub agree : AgreeOnLocks bus.lanes
   pub chips : AllLanes IsJustPowered bus
 
 abbrev pub ShowsQry : ChipState → Type 0
 ShowsQry s = HasQry s.part.table
 
--- The bank was just loaded from the file.
-pub record IsLoaded (file : List ℕ) (loaded : Loaded) : Type 0 where
+-- The bank was just loaded from a file.
+pub record IsLoaded (loaded : Loaded) : Type 0 where
+  pub file : List ℕ
   pub image : IsImageOf file (loaded_width loaded) (bus_of loaded).lanes
   pub fresh : IsFreshBus (bus_of loaded)
   pub bank : IsBank (loaded_width loaded) (device_of file) (bus_of loaded).lanes
   pub storable : AreStorable (bus_of loaded).lanes
-  pub spelled : file ≡ file_of (loaded_width loaded) (bus_of loaded).lanes
+  pub agree : AgreeOnLocks (bus_of loaded).lanes
 
--- A script was run on the bank of a file, and this is now the file of that bank.
-pub record RunsImage (race : Bool) (width : ℕ) (lines : List Line) (old : BusState) (before after : Option (List ℕ)) (ran : Ran) (file : List ℕ) : Type 0 where
+-- so many bytes as the file has that is to be saved
+abbrev pub HasRoom : List ℕ → Loaded → Type 0
+HasRoom bytes loaded = length bytes ≡ length (file_of (loaded_width loaded) (bus_of loaded).lanes)
+
+-- A script was run on the bank of a file, and these are now the bytes of the file to save: that of version 2 of the bank as it
+-- then is.
+pub record RunsImage (race : Bool) (width : ℕ) (lines : List Line) (old : BusState) (before after : SinkState) (ran : Ran) (file : List ℕ) : Type 0 where
   pub new : BusState
   pub runs : RunsScript race width lines old new before after ran
   pub spelled : file ≡ file_of width new.lanes
   pub image : IsImageOf file width (map powered new.lanes)
 
 -- the same, or a part of it
-abbrev pub ReportsImage : (race : Bool) → ℕ → List Line → BusState → Taken → List ℕ → Result Ran RunError → Type 0
-ReportsImage race width lines old taken file (Ok ran) = RunsImage race width lines old taken.before taken.after ran file
-ReportsImage race width lines old taken file (Err (Probe error)) = Unit {0}
-ReportsImage race width lines old taken file (Err NotBuilt) = Unit {0}
-ReportsImage race width lines old taken file (Err Memory) = Unit {0}
-ReportsImage race width lines old taken file (Err (Put error)) = (new : BusState) × RunsPartly race width lines old new taken.before taken.after
+abbrev pub ReportsImage : (race : Bool) → ℕ → List Line → BusState → (before after : SinkState) → List ℕ → Result Ran RunError → Type 0
+ReportsImage race width lines old before after file (Ok ran) = RunsImage race width lines old before after ran file
+ReportsImage race width lines old before after file (Err (Probe error)) = Unit {0}
+ReportsImage race width lines old before after file (Err NotBuilt) = Unit {0}
+ReportsImage race width lines old before after file (Err Memory) = Unit {0}
+ReportsImage race width lines old before after file (Err (Put error)) = (new : BusState) × RunsPartly race width lines old new before after

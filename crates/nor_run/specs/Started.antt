@@ -8,7 +8,7 @@ use Rattle.nor_io.specs.declared.sink.SinkError.{SinkError}
 use Rattle.nor_probe.specs.Probed.{refusal, IsFoundOn}
 use Rattle.nor_probe.specs.declared.error.ProbeError.TheVariants.{Off as LostPower}
 use Rattle.nor_query.specs.Derived.{locks_of}
-use Rattle.nor_bank.specs.Stands.{Stands, array_of}
+use Rattle.nor_bank.specs.Stands.{Stands, opening_array}
 use Rattle.nor_bank.specs.State.{BankState}
 use Rattle.nor_run.specs.Built.{is_built_bank}
 use Rattle.nor_run.specs.Scripts.{HasLocks, ShowsQry}
@@ -27,7 +27,7 @@ pub record IsStarted (width : ℕ) (bus : BusState) (b : BankState) : Type 0 whe
   pub halted : b.halted ≡ None
   pub erase : b.erase ≡ None
   pub unarmed : b.bus.armed ≡ None
-  pub stands : Stands b (array_of b)
+  pub stands : Stands b (opening_array b)
 
 -- Running is built for the bank, and it was started.
 pub record Starts (width : ℕ) (bus : BusState) (b : BankState) : Type 0 where

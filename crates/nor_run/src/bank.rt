@@ -1,5 +1,6 @@
 //! A script on one bank of simulated chips.
 ghost use Rattle.std.specs.Prelude.{◌≡◌, ◌≤◌, ℕ, List, Bool, Option, true, false, IfOk, IfErr};
+ghost use Rattle.nor_io.specs.Files.{SinkState};
 ghost use Rattle.nor_bus.specs.Cycles.{KeepsLanes};
 ghost use Rattle.nor_bus.specs.Driven.{AllLanes};
 ghost use Rattle.nor_array.specs.Array.{ArrayState};
@@ -64,13 +65,15 @@ pub fn put_end<W: BusWord, C: Chip + Drop, K: Sink>(
     ran: Result<Ran, RunError>,
     out: &mut K,
 ) -> Result<Ran, RunError>
-    ensures reports { (race : Bool) (lines : List LineOf) (old new : BankState) (a : ArrayState) (before : Option (List ℕ)) (faults : ℕ) → new.bus ≡ bank.now
-        → RunsLines race lines old new a (record { before = before; after = K.taken out.old; faults_before = faults; faults_after = K.faults out.old }) ran
-        → ReportsLines race lines old new a (record { before = before; after = K.taken out.new; faults_before = faults; faults_after = K.faults out.new }) result }
-    ensures ends { (race : Bool) (before : Option (List ℕ)) (faults : ℕ) → faults ≤ K.faults out.old
-        → EndsLines race (record { before = before; after = K.taken out.old; faults_before = faults; faults_after = K.faults out.old }) ran
-        → EndsLines race (record { before = before; after = K.taken out.new; faults_before = faults; faults_after = K.faults out.new }) result }
-    ensures later { K.faults out.old ≤ K.faults out.new }
+    ensures reports { (race : Bool) (lines : List LineOf) (old new : BankState) (a : ArrayState) (before : SinkState)
+        → new.bus ≡ bank.now
+        → RunsLines race lines old new a before (K.state out.old) ran
+        → ReportsLines race lines old new a before (K.state out.new) result }
+    ensures ends { (race : Bool) (before : SinkState)
+        → before.faults ≤ (K.state out.old).faults
+        → EndsLines race before (K.state out.old) ran
+        → EndsLines race before (K.state out.new) result }
+    ensures later { (K.state out.old).faults ≤ (K.state out.new).faults }
 {
     match ran {
         Ok(ran) => match put_counters(bank, ran.entries, out) {
@@ -89,11 +92,12 @@ pub fn run_bank<W: BusWord, C: Chip + Drop, K: Sink>(
 ) -> (SimBank<W, C>, Result<Ran, RunError>)
     requires built { are_built lines.now ≡ true }
     requires loaded { IsJustLoaded W.WIDTH bank }
-    ensures ends { EndsRun false W.WIDTH bank.lanes (record { before = K.taken out.old; after = K.taken out.new; faults_before = K.faults out.old; faults_after = K.faults out.new }) result.1 }
+    ensures ends { EndsRun false W.WIDTH bank.lanes (K.state out.old) (K.state out.new) result.1 }
     ensures reports { AllLanes ShowsQry bank
-        → Reports false W.WIDTH lines.now bank result.0 (record { before = K.taken out.old; after = K.taken out.new; faults_before = K.faults out.old; faults_after = K.faults out.new }) result.1 }
+        → Reports false W.WIDTH lines.now bank result.0
+        (K.state out.old) (K.state out.new) result.1 }
     ensures lanes { KeepsLanes bank result.0 }
-    ensures later { K.faults out.old ≤ K.faults out.new }
+    ensures later { (K.state out.old).faults ≤ (K.state out.new).faults }
 {
     match start_bank(bank) {
         Ok(bank) => {

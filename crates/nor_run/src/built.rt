@@ -19,7 +19,7 @@ fn is_built_word(word: &Word) -> bool
 {
     match word {
         Word::Call(Op::Read { .. } | Op::Program { .. }) => true,
-        Word::Call(_) | Word::Erase { .. } => false,
+        Word::Call(_) | Word::Erase { .. } | Word::EraseAll => false,
     }
 }
 

@@ -1,7 +1,7 @@
 //! The chips of a simulated bank.
 ghost use Rattle.std.specs.Prelude.{◌≡◌, ◌<◌, ◌≤◌};
 ghost use Rattle.nor_bus.specs.Bus.{IsWired, lanes_of as lanes_in, lane as lane_state};
-ghost use Rattle.nor_script.specs.Puts.{PutsText};
+ghost use Rattle.nor_io.specs.Puts.{PutsText};
 ghost use Rattle.nor_script.specs.Report.{totals_text};
 ghost use Rattle.nor_run.specs.Running.{counters_of};
 
@@ -45,8 +45,9 @@ pub fn put_counters<W: BusWord, C: Chip + Drop, K: Sink>(
     entries: u64,
     out: &mut K,
 ) -> Result<(), SinkError>
-    ensures puts { PutsText (totals_text (counters_of bank.now.lanes) entries) (record { before = K.taken out.old; after = K.taken out.new; faults_before = K.faults out.old; faults_after = K.faults out.new }) result }
-    ensures later { K.faults out.old ≤ K.faults out.new }
+    ensures puts { PutsText (totals_text (counters_of bank.now.lanes) entries)
+        (K.state out.old) (K.state out.new) result }
+    ensures later { (K.state out.old).faults ≤ (K.state out.new).faults }
 {
     let mut all = [(0u32, 0u32); 4];
     let lanes = lanes_of(bank);

@@ -8,7 +8,7 @@ pub enum RunError {
     Probe(ProbeError),
     /// Running isn't built for such a bank yet.
     NotBuilt,
-    /// A race wanted memory, before its first bus cycle.
+    /// A race wanted memory, before its first line.
     NoMemory,
     /// The report wasn't put whole.
     Put(SinkError),

@@ -4,7 +4,7 @@ ghost use Rattle.nor_bus.specs.Cycles.{KeepsLanes};
 ghost use Rattle.nor_bus.specs.Driven.{AllLanes};
 ghost use Rattle.nor_image.specs.Loaded.{bus_of, loaded_width};
 ghost use Rattle.nor_run.specs.Built.{are_built};
-ghost use Rattle.nor_run.specs.Scripts.{IsJustLoaded, IsLoaded, ShowsQry, EndsRun, Reports, ReportsImage};
+ghost use Rattle.nor_run.specs.Scripts.{IsJustLoaded, IsLoaded, HasRoom, ShowsQry, EndsRun, Reports, ReportsImage};
 
 use crate::bank::run_bank;
 use crate::{Ran, RunError};
@@ -62,26 +62,29 @@ fn run_loaded<K: Sink>(
     requires built { are_built lines.now ≡ true }
     requires loaded { IsJustLoaded (loaded_width loaded) (bus_of loaded) }
     ensures width { loaded_width result.0 ≡ loaded_width loaded }
-    ensures ends { EndsRun false (loaded_width loaded) (bus_of loaded).lanes (record { before = K.taken out.old; after = K.taken out.new; faults_before = K.faults out.old; faults_after = K.faults out.new }) result.1 }
-    ensures reports { AllLanes ShowsQry (bus_of loaded) → Reports false (loaded_width loaded) lines.now (bus_of loaded) (bus_of result.0) (record { before = K.taken out.old; after = K.taken out.new; faults_before = K.faults out.old; faults_after = K.faults out.new }) result.1 }
+    ensures ends { EndsRun false (loaded_width loaded) (bus_of loaded).lanes
+        (K.state out.old) (K.state out.new) result.1 }
+    ensures reports { AllLanes ShowsQry (bus_of loaded)
+        → Reports false (loaded_width loaded) lines.now (bus_of loaded) (bus_of result.0)
+        (K.state out.old) (K.state out.new) result.1 }
     ensures lanes { KeepsLanes (bus_of loaded) (bus_of result.0) }
-    ensures later { K.faults out.old ≤ K.faults out.new }
+    ensures later { (K.state out.old).faults ≤ (K.state out.new).faults }
 {
     with_each_bank!(loaded, bank => run_bank(bank, lines, out))
 }
 
 /// Runs a script on the bank that was loaded from a file, and puts the report: the entry of each line
-/// as soon as it is made, each lane's counters, and the number of entries. The file becomes that of the
-/// bank as it then is.
+/// as soon as it is made, each lane's counters, and the number of entries. The bytes of the file to save
+/// become the version 2 file of the bank as it then is: they must be as many.
 ///
 /// Each line must be built. `NotBuilt` comes exactly where [`crate::is_built`] isn't true of the bank, or
 /// where probing accepts it and its table offers locks; `Probe` exactly where probing refuses a bank that
-/// running is built for. Both put nothing. `Put` comes only from the sink. After an error the file is as
-/// it was. It takes no memory, and never answers `NoMemory`.
+/// running is built for. Both put nothing. `Put` comes only from the sink. After an error the bytes are
+/// as they were. It takes no memory, and never answers `NoMemory`.
 ///
 /// Where the chips' tables begin with `QRY`, the report is that of a legal history of the plain array
-/// that opens with the bank's bytes, the history answers the lines, and the file stands for a bank that
-/// is as before, but for its cells, which are the array's bytes; after `Put` the sink has taken a first
+/// that opens with the bank's bytes and locks, the history answers the lines, and the file stands for a
+/// bank that is as before, but for its cells, which are the array's bytes; after `Put` the sink has taken a first
 /// part of such a report.
 pub fn run_image<K: Sink>(
     loaded: Loaded,
@@ -90,11 +93,15 @@ pub fn run_image<K: Sink>(
     out: &mut K,
 ) -> Result<Ran, RunError>
     requires built { are_built lines.now ≡ true }
-    requires loaded { IsLoaded file.old loaded }
-    ensures ends { EndsRun false (loaded_width loaded) (bus_of loaded).lanes (record { before = K.taken out.old; after = K.taken out.new; faults_before = K.faults out.old; faults_after = K.faults out.new }) result }
-    ensures reports { AllLanes ShowsQry (bus_of loaded) → ReportsImage false (loaded_width loaded) lines.now (bus_of loaded) (record { before = K.taken out.old; after = K.taken out.new; faults_before = K.faults out.old; faults_after = K.faults out.new }) file.new result }
+    requires loaded { IsLoaded loaded }
+    requires room { HasRoom file.old loaded }
+    ensures ends { EndsRun false (loaded_width loaded) (bus_of loaded).lanes
+        (K.state out.old) (K.state out.new) result }
+    ensures reports { AllLanes ShowsQry (bus_of loaded)
+        → ReportsImage false (loaded_width loaded) lines.now (bus_of loaded)
+        (K.state out.old) (K.state out.new) file.new result }
     ensures same { IsErr result → file.new ≡ file.old }
-    ensures later { K.faults out.old ≤ K.faults out.new }
+    ensures later { (K.state out.old).faults ≤ (K.state out.new).faults }
 {
     let (loaded, ran) = run_loaded(loaded, lines, out);
     match ran {

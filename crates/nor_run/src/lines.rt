@@ -31,8 +31,9 @@ pub fn put_reply<K: Sink>(
     reply: Reply,
     bytes: &[u8],
 ) -> Result<Reply, SinkError>
-    ensures puts { PutsReply (entry_line position caller op.now reply bytes.now) reply (record { before = K.taken out.old; after = K.taken out.new; faults_before = K.faults out.old; faults_after = K.faults out.new }) result }
-    ensures later { K.faults out.old ≤ K.faults out.new }
+    ensures puts { PutsReply (entry_line position caller op.now reply bytes.now) reply
+        (K.state out.old) (K.state out.new) result }
+    ensures later { (K.state out.old).faults ≤ (K.state out.new).faults }
 {
     put_entry(out, position, caller, op, reply, bytes)?;
     Ok(reply)
@@ -50,10 +51,11 @@ fn read_into<W: BusWord, B: Bus<W>, K: Sink>(
 ) -> Result<Reply, SinkError>
     requires { length into.old ≡ len }
     ensures runs { (a : ArrayState) → CanCall bank.old a
-        → RunsCall caller (Op.Read at len) position bank.old bank.new a (record { before = K.taken out.old; after = K.taken out.new; faults_before = K.faults out.old; faults_after = K.faults out.new }) result }
+        → RunsCall caller (Op.Read at len) position bank.old bank.new a
+        (K.state out.old) (K.state out.new) result }
     ensures keeps { KeepsBank bank.old bank.new }
-    ensures fault { result ≡ Err Fault → Rose (K.faults out.old) (K.faults out.new) }
-    ensures later { K.faults out.old ≤ K.faults out.new }
+    ensures fault { result ≡ Err Fault → Rose (K.state out.old).faults (K.state out.new).faults }
+    ensures later { (K.state out.old).faults ≤ (K.state out.new).faults }
 {
     let op = Op::Read { at, len };
     let reply = bank.read(caller, at, into);
@@ -70,10 +72,11 @@ fn run_read<W: BusWord, B: Bus<W>, K: Sink>(
     out: &mut K,
 ) -> Result<Reply, SinkError>
     ensures runs { (a : ArrayState) → CanCall bank.old a
-        → RunsCall caller (Op.Read at len) position bank.old bank.new a (record { before = K.taken out.old; after = K.taken out.new; faults_before = K.faults out.old; faults_after = K.faults out.new }) result }
+        → RunsCall caller (Op.Read at len) position bank.old bank.new a
+        (K.state out.old) (K.state out.new) result }
     ensures keeps { KeepsBank bank.old bank.new }
-    ensures fault { result ≡ Err Fault → Rose (K.faults out.old) (K.faults out.new) }
-    ensures later { K.faults out.old ≤ K.faults out.new }
+    ensures fault { result ≡ Err Fault → Rose (K.state out.old).faults (K.state out.new).faults }
+    ensures later { (K.state out.old).faults ≤ (K.state out.new).faults }
 {
     if let Some(reply) = bank.range_refusal(at, u64::from(len)) {
         let op = Op::Read { at, len };
@@ -101,10 +104,11 @@ fn run_call<W: BusWord, B: Bus<W>, K: Sink>(
 ) -> Result<Reply, SinkError>
     requires { is_built_call op.now ≡ true }
     ensures runs { (a : ArrayState) → CanCall bank.old a
-        → RunsCall caller op.now position bank.old bank.new a (record { before = K.taken out.old; after = K.taken out.new; faults_before = K.faults out.old; faults_after = K.faults out.new }) result }
+        → RunsCall caller op.now position bank.old bank.new a
+        (K.state out.old) (K.state out.new) result }
     ensures keeps { KeepsBank bank.old bank.new }
-    ensures fault { result ≡ Err Fault → Rose (K.faults out.old) (K.faults out.new) }
-    ensures later { K.faults out.old ≤ K.faults out.new }
+    ensures fault { result ≡ Err Fault → Rose (K.state out.old).faults (K.state out.new).faults }
+    ensures later { (K.state out.old).faults ≤ (K.state out.new).faults }
 {
     match op {
         Op::Read { at, len } => run_read(bank, caller, *at, *len, position, out),
@@ -145,14 +149,16 @@ fn run_line<W: BusWord, B: Bus<W>, K: Sink>(
 ) -> Result<Reply, SinkError>
     requires { is_built_word line.now.word ≡ true }
     ensures runs { (a : ArrayState) → CanCall bank.old a
-        → RunsWord line.now.word line.now.caller position bank.old bank.new a (record { before = K.taken out.old; after = K.taken out.new; faults_before = K.faults out.old; faults_after = K.faults out.new }) result }
+        → RunsWord line.now.word line.now.caller position bank.old bank.new a
+        (K.state out.old) (K.state out.new) result }
     ensures keeps { KeepsBank bank.old bank.new }
-    ensures fault { result ≡ Err Fault → Rose (K.faults out.old) (K.faults out.new) }
-    ensures later { K.faults out.old ≤ K.faults out.new }
+    ensures fault { result ≡ Err Fault → Rose (K.state out.old).faults (K.state out.new).faults }
+    ensures later { (K.state out.old).faults ≤ (K.state out.new).faults }
 {
     match &line.word {
         Word::Call(op) => run_call(bank, line.caller, op, position, out),
         Word::Erase { .. } => unreachable!(),
+        Word::EraseAll => unreachable!(),
     }
 }
 
@@ -169,12 +175,12 @@ pub fn run_lines<W: BusWord, B: Bus<W>, K: Sink>(
 ) -> Result<Ran, SinkError>
     requires { are_built lines.now ≡ true }
     ensures ran { IfOk result (λ ran. (a : ArrayState) → CanCall bank.old a
-        → RunsWhole false lines.now bank.old bank.new a (K.taken out.old) (K.taken out.new) ran) }
+        → RunsWhole false lines.now bank.old bank.new a (K.state out.old) (K.state out.new) ran) }
     ensures stopped { IfErr result (λ _. (a : ArrayState) → CanCall bank.old a
-        → RunsPart false lines.now bank.old bank.new a (K.taken out.old) (K.taken out.new)) }
+        → RunsPart false lines.now bank.old bank.new a (K.state out.old) (K.state out.new)) }
     ensures keeps { KeepsBank bank.old bank.new }
-    ensures fault { result ≡ Err Fault → Rose (K.faults out.old) (K.faults out.new) }
-    ensures later { K.faults out.old ≤ K.faults out.new }
+    ensures fault { result ≡ Err Fault → Rose (K.state out.old).faults (K.state out.new).faults }
+    ensures later { (K.state out.old).faults ≤ (K.state out.new).faults }
 {
     let mut ran = Ran {
         entries: 0,

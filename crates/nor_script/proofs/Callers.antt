@@ -1,19 +1,19 @@
 -- Each line that is read has its caller.
-use Rattle.std.proofs.Common.{◌≡◌, ◌<◌, ◌≤◌, ◌+◌, ℕ, zero, suc, List, [], ◌∷◌, ◌++◌, length, Bool, true, false, nat_lt, nat_le, ◌&&◌, if◌then◌else◌, Option, Some, None, Result, Ok, Err, All, refl, sym, ap, subst, arith}
+use Rattle.std.proofs.Common.{◌≡◌, ◌≤◌, ◌+◌, ℕ, List, [], ◌∷◌, length, Bool, true, false, nat_lt, if◌then◌else◌, Option, Some, None, Result, Ok, Err, All, refl, subst, arith}
 use Rattle.std.specs.Prelude.{◌==◌, ◌||◌, codes}
 use Rattle.std.specs.List.{list_all}
 use Rattle.std.specs.Str.{bytes_eq}
 use Rattle.std.proofs.lemmas.List.Elements.{All-nil, All-cons}
 use Rattle.nor_script.specs.Grammar.{◌>>=◌, found, checked, is_caller, caller_of, verb_of, caller_head, head_of, word_of, line_of, number_at, byte_at, data_at, field_of, fields, field_count, is_printable, may_stand}
 use Rattle.nor_script.specs.Numbers.{number_of}
-use Rattle.nor_script.specs.Script.{lines_of, is_skipped, has_caller, before_rest, with_line, script_from, script_of, HasCaller, IsScript}
+use Rattle.nor_script.specs.Script.{lines_of, is_skipped, has_caller, with_line, script_from, script_of, HasCaller, IsScript}
 use Rattle.nor_script.specs.declared.line.Line.{Line}
 use Rattle.nor_script.specs.declared.line.Word.{Word}
 use Rattle.nor_script.specs.declared.error.LineKind.TheVariants.{Bytes, Count, NotHere}
 use Rattle.nor_script.specs.declared.error.ScriptError.{ScriptError}
 use Rattle.nor_script.specs.declared.error.ScriptError.TheVariants.{TooManyLines}
 use Rattle.nor_script.specs.declared.verb.Verb.{Verb}
-use Rattle.nor_script.specs.declared.verb.Verb.TheVariants.{Read, Program, Erase, Open, Poll, Lock, Unlock, Locked, Cut, Reboot}
+use Rattle.nor_script.specs.declared.verb.Verb.TheVariants.{Read, Program, Erase, EraseAll, Open, OpenAll, Poll, Lock, Unlock, Locked, Cut, Reboot}
 use Rattle.nor_script.specs.declared.verb.Head.{Head}
 
 -- ---- steps of reading
@@ -66,11 +66,13 @@ verb_has_caller word verb caller in_range =
     chosen P (bytes_eq word (codes "read")) Read verb _ in_range
     (chosen P (bytes_eq word (codes "program")) Program verb _ in_range
     (chosen P (bytes_eq word (codes "erase")) Erase verb _ in_range
+    (chosen P (bytes_eq word (codes "erase-all")) EraseAll verb _ in_range
     (chosen P (bytes_eq word (codes "open")) Open verb _ in_range
+    (chosen P (bytes_eq word (codes "open-all")) OpenAll verb _ in_range
     (chosen P (bytes_eq word (codes "poll")) Poll verb _ in_range
     (chosen P (bytes_eq word (codes "lock")) Lock verb _ in_range
     (chosen P (bytes_eq word (codes "unlock")) Unlock verb _ in_range
-    (chosen P (bytes_eq word (codes "locked")) Locked verb None in_range (λ none. absurd (none_some none)))))))))
+    (chosen P (bytes_eq word (codes "locked")) Locked verb None in_range (λ none. absurd (none_some none)))))))))))
   where
     none_some : None ≡ Some verb → ⊥
     none_some same = cc
@@ -117,6 +119,8 @@ word_has_caller Erase n line word caller is has =
     subst (λ (w : Word). HasCaller w caller) (ok_is (stepped (number_at n line 2) _ word is).rest) has
 word_has_caller Open n line word caller is has =
     subst (λ (w : Word). HasCaller w caller) (ok_is (stepped (number_at n line 2) _ word is).rest) has
+word_has_caller EraseAll n line word caller is has = subst (λ (w : Word). HasCaller w caller) (ok_is is) has
+word_has_caller OpenAll n line word caller is has = subst (λ (w : Word). HasCaller w caller) (ok_is is) has
 word_has_caller Poll n line word caller is has = subst (λ (w : Word). HasCaller w caller) (ok_is is) has
 word_has_caller Lock n line word caller is has =
     subst (λ (w : Word). HasCaller w caller) (ok_is (stepped (number_at n line 2) _ word is).rest) has

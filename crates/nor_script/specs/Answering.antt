@@ -1,21 +1,22 @@
 -- When a history answers a script.
 use Rattle.std.specs.Prelude.{◌≡◌, ◌≢◌, ◌<◌, ℕ, ◌==◌, Bool, true, false, List, [], ◌∷◌, ◌++◌, filter, All}
 use Rattle.nor_array.specs.declared.entry.Entry.{Entry}
-use Rattle.nor_array.specs.declared.entry.Op.TheVariants.{EraseOpen, Poll}
+use Rattle.nor_array.specs.declared.entry.Op.{Op}
+use Rattle.nor_array.specs.declared.entry.Op.TheVariants.{EraseOpen, EraseAll as EraseAllOp, Poll}
 use Rattle.nor_array.specs.declared.entry.Reply.TheVariants.{Opened, NotYet}
 use Rattle.nor_array.specs.Entries.{IsOf, IsAwaited}
 use Rattle.nor_script.specs.declared.line.Line.{Line}
 use Rattle.nor_script.specs.declared.line.Word.{Word}
-use Rattle.nor_script.specs.declared.line.Word.TheVariants.{Call, Erase}
+use Rattle.nor_script.specs.declared.line.Word.TheVariants.{Call, Erase, EraseAll}
 
--- an erase that wasn't opened
-pub record NotOpened (caller block : ℕ) (e : Entry) : Type 0 where
-  pub opening : IsOf caller (EraseOpen block) e
+-- an erase that wasn't opened by this call
+pub record NotOpened (caller : ℕ) (op : Op) (e : Entry) : Type 0 where
+  pub opening : IsOf caller op e
   pub reply : e.reply ≢ Opened
 
--- an erase that was opened, and its end
-pub record OpenedAndClosed (caller block : ℕ) (e close : Entry) : Type 0 where
-  pub opening : IsOf caller (EraseOpen block) e
+-- an erase that was opened by this call, and its end
+pub record OpenedAndClosed (caller : ℕ) (op : Op) (e close : Entry) : Type 0 where
+  pub opening : IsOf caller op e
   pub opened : e.reply ≡ Opened
   pub polling : IsOf caller Poll close
   pub closed : close.reply ≢ NotYet
@@ -24,9 +25,11 @@ pub record OpenedAndClosed (caller block : ℕ) (e close : Entry) : Type 0 where
 abbrev pub AnswersWord : Word → ℕ → List Entry → Type 0
 AnswersWord word caller [] = ⊥
 AnswersWord (Call op) caller (e ∷ []) = IsOf caller op e
-AnswersWord (Erase block) caller (e ∷ []) = NotOpened caller block e
+AnswersWord (Erase block) caller (e ∷ []) = NotOpened caller (EraseOpen block) e
+AnswersWord EraseAll caller (e ∷ []) = NotOpened caller EraseAllOp e
 AnswersWord (Call op) caller (e ∷ close ∷ []) = ⊥
-AnswersWord (Erase block) caller (e ∷ close ∷ []) = OpenedAndClosed caller block e close
+AnswersWord (Erase block) caller (e ∷ close ∷ []) = OpenedAndClosed caller (EraseOpen block) e close
+AnswersWord EraseAll caller (e ∷ close ∷ []) = OpenedAndClosed caller EraseAllOp e close
 AnswersWord word caller (e ∷ close ∷ more ∷ entries) = ⊥
 
 -- The entries are those of the lines, in their order.

@@ -4,17 +4,17 @@ use Rattle.std.specs.List.{slice_split, list_all}
 use Rattle.std.specs.Str.{bytes_eq}
 use Rattle.hex.specs.Hex.{decode_of}
 use Rattle.hex.specs.declared.error.FromHexError.{FromHexError}
-use Rattle.nor_array.specs.declared.entry.Op.TheVariants.{Read as ReadOp, Program as ProgramOp, EraseOpen, Poll as PollOp, Lock as LockOp, Unlock as UnlockOp, IsLocked, Arm, PowerOn}
+use Rattle.nor_array.specs.declared.entry.Op.TheVariants.{Read as ReadOp, Program as ProgramOp, EraseOpen, EraseAll as EraseAllOp, Poll as PollOp, Lock as LockOp, Unlock as UnlockOp, IsLocked, Arm, PowerOn}
 use Rattle.nor_script.specs.Numbers.{number_of}
 use Rattle.nor_script.specs.declared.line.Line.{Line}
 use Rattle.nor_script.specs.declared.line.Word.{Word as CommandWord}
-use Rattle.nor_script.specs.declared.line.Word.TheVariants.{Call, Erase as EraseWord}
+use Rattle.nor_script.specs.declared.line.Word.TheVariants.{Call, Erase as EraseWord, EraseAll as EraseAllWord}
 use Rattle.nor_script.specs.declared.error.LineKind.{LineKind}
 use Rattle.nor_script.specs.declared.error.LineKind.TheVariants.{Bytes, Word, Count, Number, Hex, NotHere}
 use Rattle.nor_script.specs.declared.error.ScriptError.{ScriptError}
 use Rattle.nor_script.specs.declared.error.ScriptError.TheVariants.{BadLine, BadCaller}
 use Rattle.nor_script.specs.declared.verb.Verb.{Verb}
-use Rattle.nor_script.specs.declared.verb.Verb.TheVariants.{Read, Program, Erase, Open, Poll, Lock, Unlock, Locked, Cut, Reboot}
+use Rattle.nor_script.specs.declared.verb.Verb.TheVariants.{Read, Program, Erase, EraseAll, Open, OpenAll, Poll, Lock, Unlock, Locked, Cut, Reboot}
 use Rattle.nor_script.specs.declared.verb.Head.{Head}
 
 -- a step of reading after another, where that gave a value
@@ -50,7 +50,9 @@ verb_of word =
     if bytes_eq word (codes "read") then Some Read
     else if bytes_eq word (codes "program") then Some Program
     else if bytes_eq word (codes "erase") then Some Erase
+    else if bytes_eq word (codes "erase-all") then Some EraseAll
     else if bytes_eq word (codes "open") then Some Open
+    else if bytes_eq word (codes "open-all") then Some OpenAll
     else if bytes_eq word (codes "poll") then Some Poll
     else if bytes_eq word (codes "lock") then Some Lock
     else if bytes_eq word (codes "unlock") then Some Unlock
@@ -83,7 +85,9 @@ abbrev pub field_count : Verb → ℕ
 field_count Read = 4
 field_count Program = 4
 field_count Erase = 3
+field_count EraseAll = 2
 field_count Open = 3
+field_count OpenAll = 2
 field_count Poll = 2
 field_count Lock = 3
 field_count Unlock = 3
@@ -133,6 +137,8 @@ word_of Erase n line = do
 word_of Open n line = do
   block ← number_at n line 2
   Ok (Call (EraseOpen block))
+word_of EraseAll n line = Ok EraseAllWord
+word_of OpenAll n line = Ok (Call EraseAllOp)
 word_of Poll n line = Ok (Call PollOp)
 word_of Lock n line = do
   block ← number_at n line 2
@@ -152,6 +158,7 @@ word_of Reboot n line = Ok (Call PowerOn)
 -- Callers that race have no use of half an erase, and can't power on. A cut is armed before the first of them.
 abbrev pub may_stand : (race has_callers : Bool) → Verb → Bool
 may_stand race has_callers Open = not race
+may_stand race has_callers OpenAll = not race
 may_stand race has_callers Poll = not race
 may_stand race has_callers Reboot = not race
 may_stand race has_callers Cut = not (race && has_callers)

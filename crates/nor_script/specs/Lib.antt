@@ -3,5 +3,4 @@ pub mod Grammar
 pub mod Laws
 pub mod Numbers
 pub mod Script
-pub mod Puts
 pub mod Report

@@ -6,9 +6,9 @@ use Rattle.nor_array.specs.declared.entry.Entry.{Entry}
 use Rattle.nor_array.specs.declared.entry.Halted.{Halted}
 use Rattle.nor_array.specs.declared.entry.Halted.TheVariants.{Off, Stuck}
 use Rattle.nor_array.specs.declared.entry.Op.{Op}
-use Rattle.nor_array.specs.declared.entry.Op.TheVariants.{Read, Program, EraseOpen, Poll, Lock, Unlock, IsLocked, Arm, PowerOn}
+use Rattle.nor_array.specs.declared.entry.Op.TheVariants.{Read, Program, EraseOpen, EraseAll, Poll, Lock, Unlock, IsLocked, Arm, PowerOn}
 use Rattle.nor_array.specs.declared.entry.Reply.{Reply}
-use Rattle.nor_array.specs.declared.entry.Reply.TheVariants.{Done, Opened, Erased, Bit, OutOfRange, TooLong, Busy, Occupied, Locked as LockedReply, NoLocks, Nothing, NotYet, Failed, Halted as HaltedReply}
+use Rattle.nor_array.specs.declared.entry.Reply.TheVariants.{Done, Opened, Erased, Bit, OutOfRange, TooLong, Busy, Occupied, Locked as LockedReply, NoLocks, NoChipErase, Nothing, NotYet, Failed, Halted as HaltedReply}
 
 -- an address: lower-case hex without zeros in front
 abbrev pub address : ℕ → List ℕ
@@ -24,6 +24,7 @@ abbrev pub op_front : Op → List ℕ
 op_front (Read at len) = codes "read " ++ address at ++ codes " " ++ decimal len
 op_front (Program at new) = codes "program " ++ address at ++ codes " "
 op_front (EraseOpen b) = codes "open " ++ decimal b
+op_front EraseAll = codes "open-all"
 op_front Poll = codes "poll"
 op_front (Lock b) = codes "lock " ++ decimal b
 op_front (Unlock b) = codes "unlock " ++ decimal b
@@ -56,6 +57,7 @@ plain_reply (Busy b) = codes "busy " ++ decimal b
 plain_reply (Occupied b) = codes "occupied " ++ decimal b
 plain_reply (LockedReply b) = codes "locked " ++ decimal b
 plain_reply NoLocks = codes "no-locks"
+plain_reply NoChipErase = codes "no-chip-erase"
 plain_reply Nothing = codes "nothing"
 plain_reply NotYet = codes "not-yet"
 plain_reply (Failed from to lanes) = codes "failed " ++ address from ++ codes " " ++ address to ++ codes " lanes " ++ decimal lanes

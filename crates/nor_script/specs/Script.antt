@@ -6,7 +6,7 @@ use Rattle.nor_array.specs.declared.entry.Op.TheVariants.{Arm, PowerOn}
 use Rattle.nor_script.specs.Grammar.{line_of}
 use Rattle.nor_script.specs.declared.line.Line.{Line}
 use Rattle.nor_script.specs.declared.line.Word.{Word}
-use Rattle.nor_script.specs.declared.line.Word.TheVariants.{Call, Erase}
+use Rattle.nor_script.specs.declared.line.Word.TheVariants.{Call, Erase, EraseAll}
 use Rattle.nor_script.specs.declared.error.ScriptError.{ScriptError}
 use Rattle.nor_script.specs.declared.error.ScriptError.TheVariants.{TooManyLines, NoMemory}
 
@@ -56,6 +56,7 @@ CallHasCaller _ caller = (1 ≤ caller) × (caller ≤ 8)
 abbrev pub HasCaller : Word → ℕ → Type 0
 HasCaller (Call op) caller = CallHasCaller op caller
 HasCaller (Erase block) caller = (1 ≤ caller) × (caller ≤ 8)
+HasCaller EraseAll caller = (1 ≤ caller) × (caller ≤ 8)
 
 -- Each line has its caller, and there are at most 65,536.
 pub record IsScript (lines : List Line) : Type 0 where

@@ -155,6 +155,8 @@ fn word_of(alloc: Global, verb: Verb, n: u32, line: &[u8]) -> Result<Word, Scrip
         Verb::Read => read_of(n, line),
         Verb::Program => program_of(alloc, n, line),
         Verb::Cut => cut_of(n, line),
+        Verb::EraseAll => Ok(Word::EraseAll),
+        Verb::OpenAll => Ok(Word::Call(Op::EraseAll)),
         Verb::Poll => Ok(Word::Call(Op::Poll)),
         Verb::Reboot => Ok(Word::Call(Op::PowerOn)),
         Verb::Erase => {

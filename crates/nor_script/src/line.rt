@@ -7,6 +7,8 @@ pub enum Word {
     Call(Op),
     /// The block is opened for erase, and then polled until it is erased.
     Erase { block: u32 },
+    /// The same of all blocks at once.
+    EraseAll,
 }
 
 /// A command line of a script. The caller is 1 to 8, and 0 for a cut and a reboot. The number is that

@@ -37,6 +37,8 @@ fn each_form_says_its_call(rt: HostRuntime) -> Result<(), Fail> {
     let open = Op::EraseOpen { block: 7 };
     says(&rt, alloc, "2 open 7", 2, Word::Call(open))?;
     says(&rt, alloc, "3 poll", 3, Word::Call(Op::Poll))?;
+    says(&rt, alloc, "2 erase-all", 2, Word::EraseAll)?;
+    says(&rt, alloc, "2 open-all", 2, Word::Call(Op::EraseAll))?;
     Ok(())
 }
 
@@ -112,6 +114,8 @@ fn bad_lines_name_the_first_check_that_fails(rt: HostRuntime) -> Result<(), Fail
         "1",
         "1 reed",
         "1 cut 0 0",
+        "1 erase-al",
+        "1 open-all-",
         "1  read 0 1",
         " 1 poll",
         "-1 poll",
@@ -125,6 +129,8 @@ fn bad_lines_name_the_first_check_that_fails(rt: HostRuntime) -> Result<(), Fail
         "cut 0",
         "reboot 1",
         "1 read 0 1 2",
+        "1 erase-all 0",
+        "1 open-all ",
     ];
     are_bad(&rt, alloc, false, LineKind::Count, &counts)?;
     let numbers = [
@@ -147,7 +153,7 @@ fn bad_lines_name_the_first_check_that_fails(rt: HostRuntime) -> Result<(), Fail
         "1 program 0x0 --",
     ];
     are_bad(&rt, alloc, false, LineKind::Hex, &texts)?;
-    let places = ["1 open 0", "1 poll", "reboot"];
+    let places = ["1 open 0", "1 open-all", "1 poll", "reboot"];
     are_bad(&rt, alloc, true, LineKind::NotHere, &places)?;
     are_bad(&rt, alloc, true, LineKind::Number, &["1 open zz"])?;
     are_bad(&rt, alloc, true, LineKind::Count, &["reboot 1", "1 poll 1"])
@@ -206,8 +212,8 @@ fn empty_lines_and_comments_are_counted_and_skipped(rt: HostRuntime) -> Result<(
         &rt,
         alloc,
         true,
-        "cut 1 2\ncut 0 0\n3 read 0 0\n3 erase 1\n",
-        &[1, 2, 3, 4],
+        "cut 1 2\ncut 0 0\n3 read 0 0\n3 erase 1\n4 erase-all\n",
+        &[1, 2, 3, 4, 5],
     )
 }
 
@@ -297,116 +303,42 @@ fn entries_are_reported(rt: HostRuntime) -> Result<(), Fail> {
 
 #[test]
 fn each_reply_has_its_word(rt: HostRuntime) -> Result<(), Fail> {
-    let alloc = rt.alloc();
     let open = Op::EraseOpen { block: 3 };
-    reports(
-        &rt,
-        alloc,
-        &open,
-        Reply::Opened,
-        &[],
-        "7 1 open 3 -> opened\n",
-    )?;
-    reports(
-        &rt,
-        alloc,
-        &open,
-        Reply::Occupied { block: 12 },
-        &[],
-        "7 1 open 3 -> occupied 12\n",
-    )?;
-    reports(
-        &rt,
-        alloc,
-        &open,
-        Reply::Busy { block: 3 },
-        &[],
-        "7 1 open 3 -> busy 3\n",
-    )?;
-    reports(
-        &rt,
-        alloc,
-        &open,
-        Reply::Locked { block: 3 },
-        &[],
-        "7 1 open 3 -> locked 3\n",
-    )?;
-    reports(
-        &rt,
-        alloc,
-        &Op::Poll,
-        Reply::Erased,
-        &[],
-        "7 1 poll -> erased\n",
-    )?;
-    reports(
-        &rt,
-        alloc,
-        &Op::Poll,
-        Reply::NotYet,
-        &[],
-        "7 1 poll -> not-yet\n",
-    )?;
-    reports(
-        &rt,
-        alloc,
-        &Op::Poll,
-        Reply::Nothing,
-        &[],
-        "7 1 poll -> nothing\n",
-    )
-}
-
-#[test]
-fn locks_and_halts_have_their_words(rt: HostRuntime) -> Result<(), Fail> {
-    let alloc = rt.alloc();
-    let locked = Op::IsLocked { block: 0 };
-    reports(
-        &rt,
-        alloc,
-        &locked,
-        Reply::Bit(true),
-        &[],
-        "7 1 locked 0 -> yes\n",
-    )?;
-    reports(
-        &rt,
-        alloc,
-        &locked,
-        Reply::Bit(false),
-        &[],
-        "7 1 locked 0 -> no\n",
-    )?;
     let lock = Op::Lock { block: 9 };
-    reports(
-        &rt,
-        alloc,
-        &lock,
-        Reply::NoLocks,
-        &[],
-        "7 1 lock 9 -> no-locks\n",
-    )?;
-    let off = Reply::Halted(Halted::Off { after: 20 });
     let unlock = Op::Unlock { block: 9 };
-    reports(&rt, alloc, &unlock, off, &[], "7 1 unlock 9 -> off 20\n")?;
-    let stuck = Reply::Halted(Halted::Stuck { lane: 1 });
-    reports(
-        &rt,
-        alloc,
-        &Op::PowerOn,
-        stuck,
-        &[],
-        "7 1 reboot -> stuck 1\n",
-    )?;
+    let locked = Op::IsLocked { block: 0 };
     let cut = Op::Arm { after: 0, mask: 15 };
-    reports(
-        &rt,
-        alloc,
-        &cut,
-        Reply::Done,
-        &[],
-        "7 1 cut 0 0x0f -> done\n",
-    )
+    let occupied = Reply::Occupied { block: 12 };
+    let off = Reply::Halted(Halted::Off { after: 20 });
+    let stuck = Reply::Halted(Halted::Stuck { lane: 1 });
+    for (op, reply, line) in [
+        (&open, Reply::Opened, "7 1 open 3 -> opened\n"),
+        (&open, occupied, "7 1 open 3 -> occupied 12\n"),
+        (&open, Reply::Busy { block: 3 }, "7 1 open 3 -> busy 3\n"),
+        (
+            &open,
+            Reply::Locked { block: 3 },
+            "7 1 open 3 -> locked 3\n",
+        ),
+        (&Op::EraseAll, Reply::Opened, "7 1 open-all -> opened\n"),
+        (
+            &Op::EraseAll,
+            Reply::NoChipErase,
+            "7 1 open-all -> no-chip-erase\n",
+        ),
+        (&Op::Poll, Reply::Erased, "7 1 poll -> erased\n"),
+        (&Op::Poll, Reply::NotYet, "7 1 poll -> not-yet\n"),
+        (&Op::Poll, Reply::Nothing, "7 1 poll -> nothing\n"),
+        (&locked, Reply::Bit(true), "7 1 locked 0 -> yes\n"),
+        (&locked, Reply::Bit(false), "7 1 locked 0 -> no\n"),
+        (&lock, Reply::NoLocks, "7 1 lock 9 -> no-locks\n"),
+        (&unlock, off, "7 1 unlock 9 -> off 20\n"),
+        (&Op::PowerOn, stuck, "7 1 reboot -> stuck 1\n"),
+        (&cut, Reply::Done, "7 1 cut 0 0x0f -> done\n"),
+    ] {
+        reports(&rt, rt.alloc(), op, reply, &[], line)?;
+    }
+    Ok(())
 }
 
 #[test]

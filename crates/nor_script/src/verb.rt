@@ -7,7 +7,9 @@ pub enum Verb {
     Read,
     Program,
     Erase,
+    EraseAll,
     Open,
+    OpenAll,
     Poll,
     Lock,
     Unlock,
@@ -33,8 +35,12 @@ pub fn verb_of(word: &[u8]) -> Option<Verb>
         Some(Verb::Program)
     } else if word == b"erase".as_slice() {
         Some(Verb::Erase)
+    } else if word == b"erase-all".as_slice() {
+        Some(Verb::EraseAll)
     } else if word == b"open".as_slice() {
         Some(Verb::Open)
+    } else if word == b"open-all".as_slice() {
+        Some(Verb::OpenAll)
     } else if word == b"poll".as_slice() {
         Some(Verb::Poll)
     } else if word == b"lock".as_slice() {
@@ -55,7 +61,7 @@ impl Verb {
     {
         match self {
             Verb::Reboot => 1,
-            Verb::Poll => 2,
+            Verb::EraseAll | Verb::OpenAll | Verb::Poll => 2,
             Verb::Erase | Verb::Open | Verb::Lock | Verb::Unlock | Verb::Locked | Verb::Cut => 3,
             Verb::Read | Verb::Program => 4,
         }
@@ -66,7 +72,7 @@ impl Verb {
         ensures { result ≡ may_stand race has_callers self }
     {
         match self {
-            Verb::Open | Verb::Poll | Verb::Reboot => !race,
+            Verb::Open | Verb::OpenAll | Verb::Poll | Verb::Reboot => !race,
             Verb::Cut => !(race && has_callers),
             _ => true,
         }

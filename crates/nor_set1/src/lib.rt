@@ -1,18 +1,117 @@
 //! The commands of set 0001, Intel extended, on a bank of any wiring.
 //!
-//! Each call drives all lanes of a bank at once, and what it does is said of each lane by itself: a
-//! lane whose chip is as the call asks ends as the call promises, whatever the other lanes are.
-//! `program_word` programs a bus word and tells which lanes broke off; `settle` clears the error bits
-//! and lets every lane show its array. A call asks for no more cycles than its clause says, whatever
-//! the chips are, and is given up where a cycle fails, or where a lane works for ever; then what each
-//! lane holds is bounded by `Loses` of nor_poll, or by `Tears` where power stayed on.
-//!
-//! It works over any bus, and stands on nor_poll for the polls and on nor_bus for the cycles.
+//! The calls of both sets are one: nor_poll has them, with the set as a parameter, and its `cycles_of`
+//! has the codes in which the sets differ. Here stand those of this set, under the names that a caller of
+//! one set takes.
 #![tactic(auto)]
 
-mod command;
-mod word;
+ghost use Rattle.std.specs.Prelude.{◌≡◌, ◌+◌, IsTrue, IfOk, IfErr, OnOk, OnErr};
+ghost use Rattle.nor_cell.specs.Wiring.{is_wiring};
+ghost use Rattle.nor_cell.specs.declared.device.Set.TheVariants.{Intel};
+ghost use Rattle.nor_bus.specs.Driven.{Lost, EachLane, Reaches, Counted, Asks, EachPart};
+ghost use Rattle.nor_poll.specs.Codes.{cycle_count};
+ghost use Rattle.nor_poll.specs.Erase.{BeginsErase, LosesBegin, LooksAll, LosesLook, look_reads};
+ghost use Rattle.nor_poll.specs.Rest.{Settles, LosesNone};
+ghost use Rattle.nor_poll.specs.Resume.{ResumesAll, LosesResume};
+ghost use Rattle.nor_poll.specs.Suspend.{SuspendsAll, SuspendHalts};
+ghost use Rattle.nor_poll.specs.Word.{ProgramsWord, AreBroken, IsPrompt, WordHalts, word_most};
+ghost use Rattle.nor_poll.specs.declared.codes.Command.TheVariants.{ClearErrors, EraseBlock, ShowStatus};
 
-pub use command::settle;
+use nor_bus::{Bus, Off};
+use nor_cell::{Geometry, Set};
 pub use nor_poll::{Halt, LaneSet, LaneState, Lanes};
-pub use word::program_word;
+use nor_word::BusWord;
+
+/// Programs one bus word, each lane its part: `program_word` of nor_poll.
+pub fn program_word<W: BusWord, B: Bus<W>>(
+    bus: &mut B,
+    g: Geometry,
+    at: u32,
+    new: W,
+    limit: u32,
+) -> Result<LaneSet, Halt>
+    requires wiring { IsTrue (is_wiring W.WIDTH g.lanes g.device) }
+    ensures done { OnOk result (Reaches W.WIDTH g at (B.state bus.old)
+        → EachPart (W.bytes new) (ProgramsWord Intel at) (B.state bus.old) (B.state bus.new)) }
+    ensures broken { IfOk result (AreBroken Intel W.WIDTH g at (W.bytes new) (B.state bus.old)) }
+    ensures cycles { OnOk result (Counted 5 (word_most Intel limit)
+        (B.state bus.old) (B.state bus.new)) }
+    ensures prompt { IfOk result (IsPrompt Intel W.WIDTH g at (B.state bus.old) (B.state bus.new)) }
+    ensures halts { IfErr result (WordHalts Intel W.WIDTH g at (W.bytes new) limit
+        (B.state bus.old) (B.state bus.new)) }
+{
+    nor_poll::program_word::<W, B>(Set::Intel, bus, g, at, new, limit)
+}
+
+/// Clears the errors of every lane, and lets it show its array, but for a held block: `settle` of nor_poll.
+pub fn settle<W: BusWord, B: Bus<W>>(bus: &mut B, g: Geometry, lanes: Lanes) -> Result<(), Off>
+    ensures settles { OnOk result (Reaches W.WIDTH g 0 (B.state bus.old)
+        → EachLane (Settles Intel) (B.state bus.old) (B.state bus.new)) }
+    ensures loses { OnErr result (Reaches W.WIDTH g 0 (B.state bus.old)
+        → EachLane (LosesNone Intel) (B.state bus.old) (B.state bus.new)) }
+    ensures cycles { Asks (cycle_count Intel ClearErrors) result (B.state bus.old) (B.state bus.new) }
+{
+    nor_poll::settle::<W, B>(Set::Intel, bus, g, lanes)
+}
+
+/// Begins to erase the block of bus address `at`, in every lane: `erase_start` of nor_poll.
+pub fn erase_start<W: BusWord, B: Bus<W>>(bus: &mut B, g: Geometry, at: u32) -> Result<(), Off>
+    ensures begins { OnOk result (Reaches W.WIDTH g at (B.state bus.old)
+        → EachLane (BeginsErase Intel at) (B.state bus.old) (B.state bus.new)) }
+    ensures loses { OnErr result (Reaches W.WIDTH g at (B.state bus.old)
+        → EachLane (LosesBegin Intel at) (B.state bus.old) (B.state bus.new)) }
+    ensures cycles { Asks (cycle_count Intel EraseBlock) result (B.state bus.old) (B.state bus.new) }
+{
+    nor_poll::erase_start::<W, B>(Set::Intel, bus, g, at)
+}
+
+/// Looks at an erase under way: where each lane is after one poll: `erase_look` of nor_poll.
+pub fn erase_look<W: BusWord, B: Bus<W>>(
+    bus: &mut B,
+    g: Geometry,
+    at: u32,
+    lanes: Lanes,
+) -> Result<Lanes, Off>
+    requires wiring { IsTrue (is_wiring W.WIDTH g.lanes g.device) }
+    ensures looks { IfOk result (LooksAll Intel W.WIDTH g at lanes
+        (B.state bus.old) (B.state bus.new)) }
+    ensures loses { OnErr result (LosesLook Intel W.WIDTH g at lanes
+        (B.state bus.old) (B.state bus.new)) }
+    ensures lost { OnErr result (Lost (cycle_count Intel ShowStatus + look_reads Intel)
+        (B.state bus.old) (B.state bus.new)) }
+{
+    nor_poll::erase_look::<W, B>(Set::Intel, bus, g, at, lanes)
+}
+
+/// Suspends the erase of the block at bus address `at` in each lane that runs it: `suspend` of nor_poll.
+pub fn suspend<W: BusWord, B: Bus<W>>(
+    bus: &mut B,
+    g: Geometry,
+    at: u32,
+    lanes: Lanes,
+) -> Result<Lanes, Halt>
+    requires wiring { IsTrue (is_wiring W.WIDTH g.lanes g.device) }
+    ensures suspends { IfOk result (SuspendsAll Intel W.WIDTH g at lanes
+        (B.state bus.old) (B.state bus.new)) }
+    ensures halts { IfErr result (SuspendHalts Intel W.WIDTH g at lanes
+        (B.state bus.old) (B.state bus.new)) }
+{
+    nor_poll::suspend::<W, B>(Set::Intel, bus, g, at, lanes)
+}
+
+/// Resumes the erase of the block at bus address `at` in each suspended lane: `resume` of nor_poll.
+pub fn resume<W: BusWord, B: Bus<W>>(
+    bus: &mut B,
+    g: Geometry,
+    at: u32,
+    lanes: Lanes,
+) -> Result<Lanes, Off>
+    requires wiring { IsTrue (is_wiring W.WIDTH g.lanes g.device) }
+    ensures resumes { IfOk result (ResumesAll Intel W.WIDTH g at lanes
+        (B.state bus.old) (B.state bus.new)) }
+    ensures loses { OnErr result (LosesResume Intel W.WIDTH g at lanes
+        (B.state bus.old) (B.state bus.new)) }
+    ensures cycles { Asks 1 result (B.state bus.old) (B.state bus.new) }
+{
+    nor_poll::resume::<W, B>(Set::Intel, bus, g, at, lanes)
+}

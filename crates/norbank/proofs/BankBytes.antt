@@ -1,7 +1,7 @@
 -- What reading a bank leaves of it, and how it ends.
-use Rattle.std.proofs.Common.{◌≡◌, ◌<◌, ◌≤◌, ◌+◌, ◌*◌, ◌/◌, ◌%◌, ◌∙◌, ℕ, zero, suc, List, [], ◌∷◌, ◌++◌, length, slice_index, refl, sym, ap, subst, arith, true, false, nat_lt, get_or, codes}
+use Rattle.std.proofs.Common.{◌≡◌, ◌<◌, ◌≤◌, ◌+◌, ◌*◌, ◌/◌, ◌%◌, ◌∙◌, ℕ, zero, suc, List, [], ◌∷◌, ◌++◌, length, slice_index, refl, sym, ap, subst, arith, true, false, nat_lt, codes}
 use Rattle.std.proofs.Math.Nat.{mul_left_comm}
-use Rattle.hex.specs.Hex.{encode_with, encode_lower, lower_digits}
+use Rattle.hex.specs.Hex.{encode_lower, lower_digits}
 use Rattle.nor_cell.specs.Bits.{unit_len}
 use Rattle.nor_cell.specs.Chip.{ChipState}
 use Rattle.nor_cell.specs.declared.device.Device.{Device}
@@ -10,6 +10,7 @@ use Rattle.nor_bus.specs.Cycles.{KeepsLanes}
 use Rattle.nor_bus.specs.Driven.{EachLane, AllLanes, Went}
 use Rattle.nor_bus.proofs.Driving.{some_lane, fills_word, bank_kept, still_none}
 use Rattle.nor_bus.proofs.Sizes.{bus_units}
+use Rattle.nor_io.proofs.Putting.{encode-append}
 use Rattle.nor_lane.proofs.Places.{lane_at_below}
 use Rattle.nor_bank.specs.Ranges.{IsReadable, AreOfBank}
 use Rattle.nor_probe.specs.Asking.{Resets}
@@ -40,15 +41,6 @@ bank_bytes-add device chips (suc m) a n =
     ap (λ (k : ℕ). bank_bytes device chips a k) e
     ∙ (ap (λ (l : List ℕ). bank_byte device chips a ∷ l) (bank_bytes-add device chips m (a + 1) n)
     ∙ ap (λ (k : ℕ). bank_byte device chips a ∷ (bank_bytes device chips (a + 1) m ++ bank_bytes device chips k n)) f)
-
-pub encode-append : (t xs ys : List ℕ) → encode_with t (xs ++ ys) ≡ encode_with t xs ++ encode_with t ys
-unfolding encode_with
-encode-append t [] ys = refl
-encode-append t (x ∷ xs) ys = ap (λ (r : List ℕ). get_or t (x / 16) 0 ∷ get_or t (x % 16) 0 ∷ r) (encode-append t xs ys)
-
-pub encode-nil : encode_lower [] ≡ []
-unfolding encode_with
-encode-nil = refl
 
 -- the text of one range after another
 pub encode-add : (device : Device) (chips : List ChipState) (a m n : ℕ)

@@ -7,10 +7,9 @@ use Rattle.nor_bus.proofs.Words.{same_chips}
 use Rattle.nor_image.specs.Image.{image_refusal, device_of, lanes_of_file, chip_of_lane, IsImageOf, IsCause}
 use Rattle.nor_image.specs.declared.error.ImageError.{ImageError}
 use Rattle.nor_image.specs.declared.error.ImageError.TheVariants.{BadMagic, BadHeader, Truncated, Trailing, SizeDiffers, NoMemory}
-use Rattle.nor_io.specs.Files.{FileMap, HasFile, IsAbsent, IsTooLarge}
+use Rattle.nor_io.specs.Files.{SinkState, FileMap, HasFile, IsAbsent, IsTooLarge}
 use Rattle.norbank.specs.Endings.{refused_ending, chips_before, chips_of_file, IsBankEnding}
 use Rattle.norbank.specs.Says.{Says, EndsIn, BankSays, FileSays, IsFound}
-use Rattle.nor_script.specs.Puts.{Taken}
 use Rattle.norbank.specs.declared.words.Task.{Task}
 
 -- ---- the chips of a file
@@ -59,9 +58,9 @@ chips_are file width chips image =
     same_chips (chips_of_file file) chips size (λ c below. let there : c < n = let e = chips_length file n in omega arith in
     image.each c (omega (arith, image.count)) ∙ sym (chip_there file n c there))
 
-bank_ends : (task : Task) (file : List ℕ) (width : ℕ) (chips : List ChipState) (taken : Taken) (status : ℕ) → IsImageOf file width chips
-    → EndsIn (IsBankEnding task width (device_of file) chips) taken status → FileSays task file taken status
-bank_ends task file width chips taken status image so = inl (record {
+bank_ends : (task : Task) (file : List ℕ) (width : ℕ) (chips : List ChipState) (before after : SinkState) (status : ℕ) → IsImageOf file width chips
+    → EndsIn (IsBankEnding task width (device_of file) chips) before after status → FileSays task file before after status
+bank_ends task file width chips before after status image so = inl (record {
   ending = so.ending;
   is = inr (
     image.well_formed,
@@ -72,22 +71,22 @@ bank_ends task file width chips taken status image so = inl (record {
 })
 
 -- a task on the bank that a file stands for is one on the file
-pub file_is : (task : Task) (file : List ℕ) (width : ℕ) (chips : List ChipState) (taken : Taken) (status : ℕ) → IsImageOf file width chips
-    → BankSays task width (device_of file) chips taken status → FileSays task file taken status
-file_is task file width chips taken status image (inl so) = bank_ends task file width chips taken status image so
-file_is task file width chips taken status image (inr lacks) = inr lacks
+pub file_is : (task : Task) (file : List ℕ) (width : ℕ) (chips : List ChipState) (before after : SinkState) (status : ℕ) → IsImageOf file width chips
+    → BankSays task width (device_of file) chips before after status → FileSays task file before after status
+file_is task file width chips before after status image (inl so) = bank_ends task file width chips before after status image so
+file_is task file width chips before after status image (inr lacks) = inr lacks
 
 -- a file that is refused ends as the refusal says
-refused_as : (e : ImageError) (file : List ℕ) (task : Task) (taken : Taken) (status : ℕ) → image_refusal file ≡ Some e → Says (refused_ending e) taken status → FileSays task file taken status
-refused_as e file task taken status is says = inl (record { ending = refused_ending e; is = inl (e, is, refl); says = says })
+refused_as : (e : ImageError) (file : List ℕ) (task : Task) (before after : SinkState) (status : ℕ) → image_refusal file ≡ Some e → Says (refused_ending e) before after status → FileSays task file before after status
+refused_as e file task before after status is says = inl (record { ending = refused_ending e; is = inl (e, is, refl); says = says })
 
-pub refused_is : (error : ImageError) (file : List ℕ) (task : Task) (taken : Taken) (status : ℕ) → IsCause file error → Says (refused_ending error) taken status → FileSays task file taken status
-refused_is BadMagic file task taken status cause says = refused_as BadMagic file task taken status cause says
-refused_is (BadHeader p) file task taken status cause says = refused_as (BadHeader p) file task taken status cause says
-refused_is (Truncated p) file task taken status cause says = refused_as (Truncated p) file task taken status cause says
-refused_is (Trailing p) file task taken status cause says = refused_as (Trailing p) file task taken status cause says
-refused_is (SizeDiffers l) file task taken status cause says = refused_as (SizeDiffers l) file task taken status cause says
-refused_is NoMemory file task taken status cause says = inr says
+pub refused_is : (error : ImageError) (file : List ℕ) (task : Task) (before after : SinkState) (status : ℕ) → IsCause file error → Says (refused_ending error) before after status → FileSays task file before after status
+refused_is BadMagic file task before after status cause says = refused_as BadMagic file task before after status cause says
+refused_is (BadHeader p) file task before after status cause says = refused_as (BadHeader p) file task before after status cause says
+refused_is (Truncated p) file task before after status cause says = refused_as (Truncated p) file task before after status cause says
+refused_is (Trailing p) file task before after status cause says = refused_as (Trailing p) file task before after status cause says
+refused_is (SizeDiffers l) file task before after status cause says = refused_as (SizeDiffers l) file task before after status cause says
+refused_is NoMemory file task before after status cause says = inr says
 
 -- ---- what the shelf tells
 

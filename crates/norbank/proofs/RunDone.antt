@@ -1,16 +1,15 @@
 -- What can be run is, but for faults and want of memory.
 use Rattle.std.proofs.Common.{◌≡◌, ◌≤◌, ◌∙◌, ◌⊎◌, inl, inr, ℕ, List, sym, subst, arith, Option, Some, None, Result, Bool, true, false}
 use Rattle.nor_image.specs.Image.{image_refusal, width_of}
-use Rattle.nor_io.specs.Files.{FileMap, Rose}
+use Rattle.nor_io.specs.Files.{ShelfState, SinkState, FileMap, Rose}
 use Rattle.nor_run.specs.Built.{are_built, is_built_bank}
 use Rattle.nor_run.specs.declared.lines.Ran.{Ran}
-use Rattle.nor_script.specs.Puts.{Taken}
 use Rattle.nor_script.specs.declared.error.ScriptError.{ScriptError}
 use Rattle.nor_script.specs.declared.line.Line.{Line}
 use Rattle.norbank.specs.Endings.{Ending, ends, chips_of_file}
 use Rattle.norbank.specs.Ran.{AreRunnable, IsRunDone}
-use Rattle.norbank.specs.Runs.{write_fault, IsProbeStop, IsLinesStop, IsScriptStop, IsBankStop, IsFileStop, IsTextStop, IsStop, Shelved, status_of, Saved, Runs, fresh_bus, IsToldStop, RunEnds}
-use Rattle.norbank.specs.Says.{Says, EndsIn, Lacks, took}
+use Rattle.norbank.specs.Runs.{write_fault, IsProbeStop, IsLinesStop, IsScriptStop, IsBankStop, IsFileStop, IsTextStop, IsStop, status_of, Saved, Runs, fresh_bus, IsToldStop, RunEnds}
+use Rattle.norbank.specs.Says.{Says, EndsIn, Lacks}
 use Rattle.norbank.specs.Text.{read_fault}
 
 clash : {X : Type 0} (o : Option X) (x : X) → o ≡ None → o ≡ Some x → ⊥
@@ -57,46 +56,46 @@ module _ (race : Bool) (files : FileMap) (name script_name file text : List ℕ)
 
 -- ---- what comes
 
-lacks_done : (shelf : Shelved) (taken : Taken) (status f : ℕ) → f ≤ taken.faults_before → Lacks taken status
-    → ((status ≡ 7) × (Rose shelf.faults_before shelf.faults_after ⊎ Rose f taken.faults_after)) ⊎ (status ≡ 9)
-lacks_done shelf taken status f le (inl whole) = inr whole.0
-lacks_done shelf taken status f le (inr (inl fault)) = inl (fault.0, inr (let rose = fault.1 in omega arith))
-lacks_done shelf taken status f le (inr (inr lacks)) = inr lacks.0
+lacks_done : (was now : ShelfState) (before after : SinkState) (status f : ℕ) → f ≤ before.faults → Lacks before after status
+    → ((status ≡ 7) × (Rose was.faults now.faults ⊎ Rose f after.faults)) ⊎ (status ≡ 9)
+lacks_done was now before after status f le (inl whole) = inr whole.0
+lacks_done was now before after status f le (inr (inl fault)) = inl (fault.0, inr (let rose = fault.1 in omega arith))
+lacks_done was now before after status f le (inr (inr lacks)) = inr lacks.0
 
-fault_done : (shelf : Shelved) (taken : Taken) (status f : ℕ) (text : List ℕ) → Rose shelf.faults_before shelf.faults_after → Says (ends 7 text) taken status
-    → ((status ≡ 7) × (Rose shelf.faults_before shelf.faults_after ⊎ Rose f taken.faults_after)) ⊎ (status ≡ 9)
-fault_done shelf taken status f text rose (inl whole) = inl (whole.0, inl rose)
-fault_done shelf taken status f text rose (inr (inl fault)) = inl (fault.0, inl rose)
-fault_done shelf taken status f text rose (inr (inr lacks)) = inr lacks.0
+fault_done : (was now : ShelfState) (before after : SinkState) (status f : ℕ) (text : List ℕ) → Rose was.faults now.faults → Says (ends 7 text) before after status
+    → ((status ≡ 7) × (Rose was.faults now.faults ⊎ Rose f after.faults)) ⊎ (status ≡ 9)
+fault_done was now before after status f text rose (inl whole) = inl (whole.0, inl rose)
+fault_done was now before after status f text rose (inr (inl fault)) = inl (fault.0, inl rose)
+fault_done was now before after status f text rose (inr (inr lacks)) = inr lacks.0
 
 code_done : (halted : Bool) (status : ℕ) → status ≡ status_of halted → (status ≡ 0) ⊎ (status ≡ 6)
 code_done true status is = inr is
 code_done false status is = inl is
 
-saved_done : (name saved : List ℕ) (ran : Ran) (shelf : Shelved) (before : Option (List ℕ)) (taken : Taken) (status f : ℕ) → f ≤ taken.faults_before → Saved name saved ran shelf taken status
-    → IsRunDone shelf (took before taken.after f taken.faults_after) status
-saved_done name saved ran shelf before taken status f le (inl done) = inl (code_done ran.halted status done.0)
-saved_done name saved ran shelf before taken status f le (inr (same, inl fault)) = inr (fault_done shelf taken status f (write_fault name) fault.0 fault.1)
-saved_done name saved ran shelf before taken status f le (inr (same, inr lacks)) = inr (lacks_done shelf taken status f le lacks)
+saved_done : (name saved : List ℕ) (ran : Ran) (was now : ShelfState) (first before after : SinkState) (status : ℕ) → first.faults ≤ before.faults
+    → Saved name saved ran was now before after status → IsRunDone was now first after status
+saved_done name saved ran was now first before after status le (inl done) = inl (code_done ran.halted status done.0)
+saved_done name saved ran was now first before after status le (inr (same, inl fault)) = inr (fault_done was now before after status first.faults (write_fault name) fault.0 fault.1)
+saved_done name saved ran was now first before after status le (inr (same, inr lacks)) = inr (lacks_done was now before after status first.faults le lacks)
 
-runs_done : (race : Bool) (width : ℕ) (lines : List Line) (file name : List ℕ) (shelf : Shelved) (taken : Taken) (status : ℕ) → Runs race width lines (fresh_bus (chips_of_file file)) name shelf taken status
-    → IsRunDone shelf taken status
-runs_done race width lines file name shelf taken status (inl whole) =
-    saved_done name whole.saved whole.ran shelf taken.before (took whole.mid taken.after whole.faults taken.faults_after) status taken.faults_before whole.later whole.ends
-runs_done race width lines file name shelf taken status (inr part) = by part.ends
+runs_done : (race : Bool) (width : ℕ) (lines : List Line) (file name : List ℕ) (was now : ShelfState) (before after : SinkState) (status : ℕ) → Runs race width lines (fresh_bus (chips_of_file file)) name was now before after status
+    → IsRunDone was now before after status
+runs_done race width lines file name was now before after status (inl whole) =
+    saved_done name whole.saved whole.ran was now before whole.mid after status whole.later whole.ends
+runs_done race width lines file name was now before after status (inr part) = by part.ends
   where
-    by : ((status ≡ 7) × Rose taken.faults_before taken.faults_after) ⊎ (status ≡ 9) → IsRunDone shelf taken status
+    by : ((status ≡ 7) × Rose before.faults after.faults) ⊎ (status ≡ 9) → IsRunDone was now before after status
     by (inl seven) = inr (inl (seven.0, inr seven.1))
     by (inr nine) = inr (inr nine)
 
-pub run_done : (race : Bool) (files : FileMap) (name script_name file text : List ℕ) (lines : List Line) (shelf : Shelved) (taken : Taken) (status : ℕ) → shelf.before ≡ Some files
-    → AreRunnable race files name script_name file text lines → RunEnds race name script_name shelf taken status → IsRunDone shelf taken status
-run_done race files name script_name file text lines shelf taken status told can (inl stops) = by stops.says
+pub run_done : (race : Bool) (files : FileMap) (name script_name file text : List ℕ) (lines : List Line) (was now : ShelfState) (before after : SinkState) (status : ℕ) → was.files ≡ Some files
+    → AreRunnable race files name script_name file text lines → RunEnds race name script_name was now before after status → IsRunDone was now before after status
+run_done race files name script_name file text lines was now before after status told can (inl stops) = by stops.says
   where
-    by : EndsIn (IsToldStop race shelf.before name script_name) taken status ⊎ Lacks taken status → IsRunDone shelf taken status
+    by : EndsIn (IsToldStop race was.files name script_name) before after status ⊎ Lacks before after status → IsRunDone was now before after status
     by (inl so) = absurd (no_told_stop race files name script_name file text lines can so.ending (subst (λ (o : Option FileMap). IsToldStop race o name script_name so.ending) told so.is))
-    by (inr lacks) = inr (lacks_done shelf taken status taken.faults_before (omega arith) lacks)
-run_done race files name script_name file text lines shelf taken status told can (inr (inl (inl fails))) = inr (fault_done shelf taken status taken.faults_before (read_fault name) fails.rose fails.says)
-run_done race files name script_name file text lines shelf taken status told can (inr (inl (inr fails))) = inr (fault_done shelf taken status taken.faults_before (read_fault script_name) fails.fails.rose fails.fails.says)
-run_done race files name script_name file text lines shelf taken status told can (inr (inr ran)) =
-    runs_done race (width_of ran.file) ran.runs.runs.lines ran.file name shelf taken status ran.runs.runs.runs
+    by (inr lacks) = inr (lacks_done was now before after status before.faults (omega arith) lacks)
+run_done race files name script_name file text lines was now before after status told can (inr (inl (inl fails))) = inr (fault_done was now before after status before.faults (read_fault name) fails.rose fails.says)
+run_done race files name script_name file text lines was now before after status told can (inr (inl (inr fails))) = inr (fault_done was now before after status before.faults (read_fault script_name) fails.fails.rose fails.fails.says)
+run_done race files name script_name file text lines was now before after status told can (inr (inr ran)) =
+    runs_done race (width_of ran.file) ran.runs.runs.lines ran.file name was now before after status ran.runs.runs.runs

@@ -4,18 +4,19 @@ use Rattle.nor_cell.specs.Chip.{ChipState}
 use Rattle.nor_image.specs.Image.{width_of}
 use Rattle.nor_image.specs.declared.error.ImageError.{ImageError}
 use Rattle.nor_image.specs.declared.error.ImageError.TheVariants.{BadMagic, BadHeader, Truncated, Trailing, SizeDiffers, NoMemory}
-use Rattle.nor_io.specs.Files.{FileMap, Rose, Saves}
+use Rattle.nor_io.specs.Files.{ShelfState, SinkState, FileMap, Rose, Saves}
+use Rattle.nor_io.proofs.Putting.{rose_later}
+use Rattle.nor_run.specs.Running.{Untouched}
 use Rattle.nor_run.specs.Scripts.{RunsImage}
 use Rattle.nor_run.specs.declared.lines.Ran.{Ran}
-use Rattle.nor_script.specs.Puts.{Taken}
 use Rattle.nor_script.specs.Script.{script_of}
 use Rattle.nor_script.specs.declared.error.ScriptError.{ScriptError}
 use Rattle.nor_script.specs.declared.error.ScriptError.TheVariants.{BadLine, BadCaller, TooManyLines, NoMemory as NoScriptMemory}
 use Rattle.nor_script.specs.declared.line.Line.{Line}
 use Rattle.norbank.specs.Endings.{Ending, ends, refused_ending, unfound_ending, chips_of_file}
 use Rattle.norbank.specs.Ran.{RanImage}
-use Rattle.norbank.specs.Runs.{script_ending, script_too_large, write_fault, IsProbeStop, IsLinesStop, IsScriptStop, IsBankStop, IsFileStop, IsTextStop, IsStop, Shelved, Stops, status_of, Saved, Runs, fresh_bus, IsToldStop, ReadFails, RunsTold, RunEnds}
-use Rattle.norbank.specs.Says.{Says, EndsIn, Lacks, took}
+use Rattle.norbank.specs.Runs.{script_ending, script_too_large, write_fault, IsProbeStop, IsLinesStop, IsScriptStop, IsBankStop, IsFileStop, IsTextStop, IsStop, Stops, status_of, Saved, Runs, fresh_bus, IsToldStop, ReadFails, RunsTold, RunEnds}
+use Rattle.norbank.specs.Says.{Says, EndsIn, Lacks}
 use Rattle.norbank.specs.Text.{no_memory, not_built, too_large, absent, read_fault}
 
 -- ---- the status of each stop
@@ -82,39 +83,39 @@ stop_code race (Some file) text name script_name e (inr small) = text_stop race 
 -- ---- what is said with a status
 
 -- no other status than that of the ending, 7 with a fault, or 9
-says_code : (e : Ending) (taken : Taken) (status : ℕ) → Says e taken status → (status ≡ e.code) ⊎ (((status ≡ 7) × Rose taken.faults_before taken.faults_after) ⊎ (status ≡ 9))
-says_code e taken status (inl whole) = inl whole.0
-says_code e taken status (inr (inl fault)) = inr (inl (fault.0, fault.1))
-says_code e taken status (inr (inr lacks)) = inr (inr lacks.0)
+says_code : (e : Ending) (before after : SinkState) (status : ℕ) → Says e before after status → (status ≡ e.code) ⊎ (((status ≡ 7) × Rose before.faults after.faults) ⊎ (status ≡ 9))
+says_code e before after status (inl whole) = inl whole.0
+says_code e before after status (inr (inl fault)) = inr (inl (fault.0, fault.1))
+says_code e before after status (inr (inr lacks)) = inr (inr lacks.0)
 
-not_done : (e : Ending) (taken : Taken) (status : ℕ) → (e.code ≡ 0 → ⊥) → (e.code ≡ 6 → ⊥) → Says e taken status → (status ≡ 0) ⊎ (status ≡ 6) → ⊥
-not_done e taken status zero_not six_not (inl whole) (inl zero_is) = zero_not (sym whole.0 ∙ zero_is)
-not_done e taken status zero_not six_not (inl whole) (inr six_is) = six_not (sym whole.0 ∙ six_is)
-not_done e taken status zero_not six_not (inr (inl fault)) (inl zero_is) = let x = fault.0 in omega arith
-not_done e taken status zero_not six_not (inr (inl fault)) (inr six_is) = let x = fault.0 in omega arith
-not_done e taken status zero_not six_not (inr (inr lacks)) (inl zero_is) = let x = lacks.0 in omega arith
-not_done e taken status zero_not six_not (inr (inr lacks)) (inr six_is) = let x = lacks.0 in omega arith
+not_done : (e : Ending) (before after : SinkState) (status : ℕ) → (e.code ≡ 0 → ⊥) → (e.code ≡ 6 → ⊥) → Says e before after status → (status ≡ 0) ⊎ (status ≡ 6) → ⊥
+not_done e before after status zero_not six_not (inl whole) (inl zero_is) = zero_not (sym whole.0 ∙ zero_is)
+not_done e before after status zero_not six_not (inl whole) (inr six_is) = six_not (sym whole.0 ∙ six_is)
+not_done e before after status zero_not six_not (inr (inl fault)) (inl zero_is) = let x = fault.0 in omega arith
+not_done e before after status zero_not six_not (inr (inl fault)) (inr six_is) = let x = fault.0 in omega arith
+not_done e before after status zero_not six_not (inr (inr lacks)) (inl zero_is) = let x = lacks.0 in omega arith
+not_done e before after status zero_not six_not (inr (inr lacks)) (inr six_is) = let x = lacks.0 in omega arith
 
-seven_of : (e : Ending) (taken : Taken) (status : ℕ) → (e.code ≡ 7 → ⊥) → Says e taken status → status ≡ 7 → Rose taken.faults_before taken.faults_after
-seven_of e taken status never (inl whole) is = absurd (never (sym whole.0 ∙ is))
-seven_of e taken status never (inr (inl fault)) is = fault.1
-seven_of e taken status never (inr (inr lacks)) is = absurd (let x = lacks.0 in omega arith)
+seven_of : (e : Ending) (before after : SinkState) (status : ℕ) → (e.code ≡ 7 → ⊥) → Says e before after status → status ≡ 7 → Rose before.faults after.faults
+seven_of e before after status never (inl whole) is = absurd (never (sym whole.0 ∙ is))
+seven_of e before after status never (inr (inl fault)) is = fault.1
+seven_of e before after status never (inr (inr lacks)) is = absurd (let x = lacks.0 in omega arith)
 
 -- ---- done, halted or not
 
-stops_never_done : (IsEnding : Ending → Type 0) (shelf : Shelved) (taken : Taken) (status : ℕ) → ((e : Ending) → IsEnding e → IsStopCode e) → Stops IsEnding shelf taken status
+stops_never_done : (IsEnding : Ending → Type 0) (was now : ShelfState) (before after : SinkState) (status : ℕ) → ((e : Ending) → IsEnding e → IsStopCode e) → Stops IsEnding was now before after status
     → (status ≡ 0) ⊎ (status ≡ 6) → ⊥
-stops_never_done IsEnding shelf taken status codes stops done = by stops.says
+stops_never_done IsEnding was now before after status codes stops done = by stops.says
   where
-    by : EndsIn IsEnding taken status ⊎ Lacks taken status → ⊥
-    by (inl so) = let code = codes so.ending so.is in not_done so.ending taken status code.done code.halted so.says done
-    by (inr lacks) = not_done (ends 9 no_memory) taken status (λ x. omega arith) (λ x. omega arith) lacks done
+    by : EndsIn IsEnding before after status ⊎ Lacks before after status → ⊥
+    by (inl so) = let code = codes so.ending so.is in not_done so.ending before after status code.done code.halted so.says done
+    by (inr lacks) = not_done (ends 9 no_memory) before after status (λ x. omega arith) (λ x. omega arith) lacks done
 
 told_code : (race : Bool) (told : Option FileMap) (name script_name : List ℕ) (e : Ending) → IsToldStop race told name script_name e → IsStopCode e
 told_code race told name script_name e is = stop_code race is.file is.text name script_name e is.is
 
-fails_never_done : (name : List ℕ) (shelf : Shelved) (taken : Taken) (status : ℕ) → ReadFails name shelf taken status → (status ≡ 0) ⊎ (status ≡ 6) → ⊥
-fails_never_done name shelf taken status fails done = not_done (ends 7 (read_fault name)) taken status (λ x. omega arith) (λ x. omega arith) fails.says done
+fails_never_done : (name : List ℕ) (was now : ShelfState) (before after : SinkState) (status : ℕ) → ReadFails name was now before after status → (status ≡ 0) ⊎ (status ≡ 6) → ⊥
+fails_never_done name was now before after status fails done = not_done (ends 7 (read_fault name)) before after status (λ x. omega arith) (λ x. omega arith) fails.says done
 
 part_never_done : (status f g : ℕ) → ((status ≡ 7) × Rose f g) ⊎ (status ≡ 9) → (status ≡ 0) ⊎ (status ≡ 6) → ⊥
 part_never_done status f g (inl seven) (inl zero_is) = let x = seven.0 in omega arith
@@ -123,24 +124,24 @@ part_never_done status f g (inr nine) (inl zero_is) = omega arith
 part_never_done status f g (inr nine) (inr six_is) = omega arith
 
 -- The bank was saved with such a status.
-record SavedSo (name saved : List ℕ) (ran : Ran) (shelf : Shelved) (taken : Taken) (status : ℕ) : Type 0 where
+record SavedSo (name saved : List ℕ) (ran : Ran) (was now : ShelfState) (before after : SinkState) (status : ℕ) : Type 0 where
   code : status ≡ status_of ran.halted
-  saves : Saves shelf.before name saved shelf.after
-  text : taken.after ≡ taken.before
+  saves : Saves was.files name saved now.files
+  text : Untouched before after
 
-saved_so : (name saved : List ℕ) (ran : Ran) (shelf : Shelved) (taken : Taken) (status : ℕ) → Saved name saved ran shelf taken status → (status ≡ 0) ⊎ (status ≡ 6)
-    → SavedSo name saved ran shelf taken status
-saved_so name saved ran shelf taken status (inl done) is = record { code = done.0; saves = done.1; text = done.2 }
-saved_so name saved ran shelf taken status (inr (same, inl fault)) is = absurd (not_done (ends 7 (write_fault name)) taken status (λ x. omega arith) (λ x. omega arith) fault.1 is)
-saved_so name saved ran shelf taken status (inr (same, inr lacks)) is = absurd (not_done (ends 9 no_memory) taken status (λ x. omega arith) (λ x. omega arith) lacks is)
+saved_so : (name saved : List ℕ) (ran : Ran) (was now : ShelfState) (before after : SinkState) (status : ℕ) → Saved name saved ran was now before after status → (status ≡ 0) ⊎ (status ≡ 6)
+    → SavedSo name saved ran was now before after status
+saved_so name saved ran was now before after status (inl done) is = record { code = done.0; saves = done.1; text = done.2 }
+saved_so name saved ran was now before after status (inr (same, inl fault)) is = absurd (not_done (ends 7 (write_fault name)) before after status (λ x. omega arith) (λ x. omega arith) fault.1 is)
+saved_so name saved ran was now before after status (inr (same, inr lacks)) is = absurd (not_done (ends 9 no_memory) before after status (λ x. omega arith) (λ x. omega arith) lacks is)
 
-told_ran : (race : Bool) (name script_name : List ℕ) (shelf : Shelved) (taken : Taken) (status : ℕ) → RunsTold race name script_name shelf taken status → (status ≡ 0) ⊎ (status ≡ 6)
-    → RanImage race name script_name shelf taken status
-told_ran race name script_name shelf taken status told is = by told.runs.runs.runs
+told_ran : (race : Bool) (name script_name : List ℕ) (was now : ShelfState) (before after : SinkState) (status : ℕ) → RunsTold race name script_name was now before after status → (status ≡ 0) ⊎ (status ≡ 6)
+    → RanImage race name script_name was now before after status
+told_ran race name script_name was now before after status told is = by told.runs.runs.runs
   where
-    by : Runs race (width_of told.file) told.runs.runs.lines (fresh_bus (chips_of_file told.file)) name shelf taken status → RanImage race name script_name shelf taken status
+    by : Runs race (width_of told.file) told.runs.runs.lines (fresh_bus (chips_of_file told.file)) name was now before after status → RanImage race name script_name was now before after status
     by (inl whole) =
-        let so = saved_so name whole.saved whole.ran shelf (took whole.mid taken.after whole.faults taken.faults_after) status whole.ends is in
+        let so = saved_so name whole.saved whole.ran was now whole.mid after status whole.ends is in
         record {
           file = told.file;
           is_file = told.is_file;
@@ -154,18 +155,18 @@ told_ran race name script_name shelf taken status told is = by told.runs.runs.ru
           saved = whole.saved;
           code = so.code;
           runs = λ qry.
-              subst (λ (o : Option (List ℕ)). RunsImage race (width_of told.file) told.runs.runs.lines (fresh_bus (chips_of_file told.file)) taken.before o whole.ran whole.saved) (sym so.text) (whole.runs qry);
+              subst (λ (s : SinkState). RunsImage race (width_of told.file) told.runs.runs.lines (fresh_bus (chips_of_file told.file)) before s whole.ran whole.saved) (sym so.text) (whole.runs qry);
           saves = so.saves;
         }
-    by (inr part) = absurd (part_never_done status taken.faults_before taken.faults_after part.ends is)
+    by (inr part) = absurd (part_never_done status before.faults after.faults part.ends is)
 
-pub run_ran : (race : Bool) (name script_name : List ℕ) (shelf : Shelved) (taken : Taken) (status : ℕ) → RunEnds race name script_name shelf taken status → (status ≡ 0) ⊎ (status ≡ 6)
-    → RanImage race name script_name shelf taken status
-run_ran race name script_name shelf taken status (inl stops) is =
-    absurd (stops_never_done (IsToldStop race shelf.before name script_name) shelf taken status (told_code race shelf.before name script_name) stops is)
-run_ran race name script_name shelf taken status (inr (inl (inl fails))) is = absurd (fails_never_done name shelf taken status fails is)
-run_ran race name script_name shelf taken status (inr (inl (inr fails))) is = absurd (fails_never_done script_name shelf taken status fails.fails is)
-run_ran race name script_name shelf taken status (inr (inr told)) is = told_ran race name script_name shelf taken status told is
+pub run_ran : (race : Bool) (name script_name : List ℕ) (was now : ShelfState) (before after : SinkState) (status : ℕ) → RunEnds race name script_name was now before after status → (status ≡ 0) ⊎ (status ≡ 6)
+    → RanImage race name script_name was now before after status
+run_ran race name script_name was now before after status (inl stops) is =
+    absurd (stops_never_done (IsToldStop race was.files name script_name) was now before after status (told_code race was.files name script_name) stops is)
+run_ran race name script_name was now before after status (inr (inl (inl fails))) is = absurd (fails_never_done name was now before after status fails is)
+run_ran race name script_name was now before after status (inr (inl (inr fails))) is = absurd (fails_never_done script_name was now before after status fails.fails is)
+run_ran race name script_name was now before after status (inr (inr told)) is = told_ran race name script_name was now before after status told is
 
 -- ---- another status: no file has changed
 
@@ -177,52 +178,49 @@ not_either : (status : ℕ) → status ≢ 0 → status ≢ 6 → (status ≡ 0)
 not_either status zero_not six_not (inl zero_is) = zero_not zero_is
 not_either status zero_not six_not (inr six_is) = six_not six_is
 
-saved_kept : (name saved : List ℕ) (ran : Ran) (shelf : Shelved) (taken : Taken) (status : ℕ) → Saved name saved ran shelf taken status → status ≢ 0 → status ≢ 6 → shelf.after ≡ shelf.before
-saved_kept name saved ran shelf taken status (inl done) zero_not six_not = absurd (not_either status zero_not six_not (status_cases ran.halted status done.0))
-saved_kept name saved ran shelf taken status (inr (same, why)) zero_not six_not = same
+saved_kept : (name saved : List ℕ) (ran : Ran) (was now : ShelfState) (before after : SinkState) (status : ℕ) → Saved name saved ran was now before after status → status ≢ 0 → status ≢ 6 → now.files ≡ was.files
+saved_kept name saved ran was now before after status (inl done) zero_not six_not = absurd (not_either status zero_not six_not (status_cases ran.halted status done.0))
+saved_kept name saved ran was now before after status (inr (same, why)) zero_not six_not = same
 
-pub run_kept : (race : Bool) (name script_name : List ℕ) (shelf : Shelved) (taken : Taken) (status : ℕ) → RunEnds race name script_name shelf taken status → status ≢ 0 → status ≢ 6
-    → shelf.after ≡ shelf.before
-run_kept race name script_name shelf taken status (inl stops) zero_not six_not = stops.kept
-run_kept race name script_name shelf taken status (inr (inl (inl fails))) zero_not six_not = fails.kept
-run_kept race name script_name shelf taken status (inr (inl (inr fails))) zero_not six_not = fails.fails.kept
-run_kept race name script_name shelf taken status (inr (inr told)) zero_not six_not = by told.runs.runs.runs
+pub run_kept : (race : Bool) (name script_name : List ℕ) (was now : ShelfState) (before after : SinkState) (status : ℕ) → RunEnds race name script_name was now before after status → status ≢ 0 → status ≢ 6
+    → now.files ≡ was.files
+run_kept race name script_name was now before after status (inl stops) zero_not six_not = stops.kept
+run_kept race name script_name was now before after status (inr (inl (inl fails))) zero_not six_not = fails.kept
+run_kept race name script_name was now before after status (inr (inl (inr fails))) zero_not six_not = fails.fails.kept
+run_kept race name script_name was now before after status (inr (inr told)) zero_not six_not = by told.runs.runs.runs
   where
-    by : Runs race (width_of told.file) told.runs.runs.lines (fresh_bus (chips_of_file told.file)) name shelf taken status → shelf.after ≡ shelf.before
-    by (inl whole) = saved_kept name whole.saved whole.ran shelf (took whole.mid taken.after whole.faults taken.faults_after) status whole.ends zero_not six_not
+    by : Runs race (width_of told.file) told.runs.runs.lines (fresh_bus (chips_of_file told.file)) name was now before after status → now.files ≡ was.files
+    by (inl whole) = saved_kept name whole.saved whole.ran was now whole.mid after status whole.ends zero_not six_not
     by (inr part) = part.kept
 
 -- ---- status 7
-
-rose_early : (f g h : ℕ) → f ≤ g → Rose g h → Rose f h
-rose_early f g h le rose = omega arith
 
 not_seven : (halted : Bool) (status : ℕ) → status ≡ status_of halted → status ≡ 7 → ⊥
 not_seven true status is seven = omega arith
 not_seven false status is seven = omega arith
 
-saved_seven : (name saved : List ℕ) (ran : Ran) (shelf : Shelved) (taken : Taken) (status f : ℕ) → f ≤ taken.faults_before → Saved name saved ran shelf taken status → status ≡ 7
-    → Rose shelf.faults_before shelf.faults_after ⊎ Rose f taken.faults_after
-saved_seven name saved ran shelf taken status f le (inl done) is = absurd (not_seven ran.halted status done.0 is)
-saved_seven name saved ran shelf taken status f le (inr (same, inl fault)) is = inl fault.0
-saved_seven name saved ran shelf taken status f le (inr (same, inr lacks)) is =
-    inr (rose_early f taken.faults_before taken.faults_after le (seven_of (ends 9 no_memory) taken status (λ x. omega arith) lacks is))
+saved_seven : (name saved : List ℕ) (ran : Ran) (was now : ShelfState) (before after : SinkState) (status f : ℕ) → f ≤ before.faults → Saved name saved ran was now before after status → status ≡ 7
+    → Rose was.faults now.faults ⊎ Rose f after.faults
+saved_seven name saved ran was now before after status f le (inl done) is = absurd (not_seven ran.halted status done.0 is)
+saved_seven name saved ran was now before after status f le (inr (same, inl fault)) is = inl fault.0
+saved_seven name saved ran was now before after status f le (inr (same, inr lacks)) is =
+    inr (rose_later f before.faults after.faults le (seven_of (ends 9 no_memory) before after status (λ x. omega arith) lacks is))
 
-pub run_seven : (race : Bool) (name script_name : List ℕ) (shelf : Shelved) (taken : Taken) (status : ℕ) → RunEnds race name script_name shelf taken status → status ≡ 7
-    → Rose shelf.faults_before shelf.faults_after ⊎ Rose taken.faults_before taken.faults_after
-run_seven race name script_name shelf taken status (inl stops) is = inr (by stops.says)
+pub run_seven : (race : Bool) (name script_name : List ℕ) (was now : ShelfState) (before after : SinkState) (status : ℕ) → RunEnds race name script_name was now before after status → status ≡ 7
+    → Rose was.faults now.faults ⊎ Rose before.faults after.faults
+run_seven race name script_name was now before after status (inl stops) is = inr (by stops.says)
   where
-    by : EndsIn (IsToldStop race shelf.before name script_name) taken status ⊎ Lacks taken status → Rose taken.faults_before taken.faults_after
-    by (inl so) = seven_of so.ending taken status (told_code race shelf.before name script_name so.ending so.is).fault so.says is
-    by (inr lacks) = seven_of (ends 9 no_memory) taken status (λ x. omega arith) lacks is
-run_seven race name script_name shelf taken status (inr (inl (inl fails))) is = inl fails.rose
-run_seven race name script_name shelf taken status (inr (inl (inr fails))) is = inl fails.fails.rose
-run_seven race name script_name shelf taken status (inr (inr told)) is = by told.runs.runs.runs
+    by : EndsIn (IsToldStop race was.files name script_name) before after status ⊎ Lacks before after status → Rose before.faults after.faults
+    by (inl so) = seven_of so.ending before after status (told_code race was.files name script_name so.ending so.is).fault so.says is
+    by (inr lacks) = seven_of (ends 9 no_memory) before after status (λ x. omega arith) lacks is
+run_seven race name script_name was now before after status (inr (inl (inl fails))) is = inl fails.rose
+run_seven race name script_name was now before after status (inr (inl (inr fails))) is = inl fails.fails.rose
+run_seven race name script_name was now before after status (inr (inr told)) is = by told.runs.runs.runs
   where
-    from_part : ((status ≡ 7) × Rose taken.faults_before taken.faults_after) ⊎ (status ≡ 9) → Rose taken.faults_before taken.faults_after
+    from_part : ((status ≡ 7) × Rose before.faults after.faults) ⊎ (status ≡ 9) → Rose before.faults after.faults
     from_part (inl seven) = seven.1
     from_part (inr nine) = absurd (omega arith)
 
-    by : Runs race (width_of told.file) told.runs.runs.lines (fresh_bus (chips_of_file told.file)) name shelf taken status → Rose shelf.faults_before shelf.faults_after ⊎ Rose taken.faults_before taken.faults_after
-    by (inl whole) = saved_seven name whole.saved whole.ran shelf (took whole.mid taken.after whole.faults taken.faults_after) status taken.faults_before whole.later whole.ends is
+    by : Runs race (width_of told.file) told.runs.runs.lines (fresh_bus (chips_of_file told.file)) name was now before after status → Rose was.faults now.faults ⊎ Rose before.faults after.faults
+    by (inl whole) = saved_seven name whole.saved whole.ran was now whole.mid after status before.faults whole.later whole.ends is
     by (inr part) = inr (from_part part.ends)

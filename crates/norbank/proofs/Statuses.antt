@@ -16,12 +16,11 @@ use Rattle.nor_probe.specs.declared.probing.Found.{Found}
 use Rattle.nor_image.specs.Image.{image_refusal, device_of, width_of}
 use Rattle.nor_image.specs.declared.error.ImageError.{ImageError}
 use Rattle.nor_image.specs.declared.error.ImageError.TheVariants.{BadMagic, BadHeader, Truncated, Trailing, SizeDiffers, NoMemory}
-use Rattle.nor_io.specs.Files.{FileMap, Rose, Appends}
+use Rattle.nor_io.specs.Files.{ShelfState, SinkState, FileMap, Rose, Appends}
 use Rattle.norbank.specs.Answering.{IsWithin, CanAnswer, IsDone}
 use Rattle.norbank.specs.Endings.{Ending, ends, refused_ending, unfound_ending, range_ending, task_ending, chips_of_file, IsBankEnding, IsFileEnding, IsNamedEnding}
 use Rattle.norbank.specs.Open.{IsAccepted, PrintsImage, ShowsImage}
 use Rattle.norbank.specs.Says.{Says, SaysOrLacks, EndsIn, BankSays, FileSays, IsFound, TaskEnds}
-use Rattle.nor_script.specs.Puts.{Taken}
 use Rattle.norbank.specs.Text.{hex_line, out_of_range, too_large, no_memory, absent, read_fault}
 use Rattle.norbank.specs.declared.words.Task.{Task}
 use Rattle.norbank.specs.declared.words.Task.TheVariants.{Read, Show}
@@ -43,24 +42,24 @@ accepted_of width chips found is =
     is.wiring refl refl is.same is.says.stands.checks
 
 -- what ends so, or for want of memory
-pub bank_says : (task : Task) (width : ℕ) (device : Device) (chips : List ChipState) (e : Ending) (taken : Taken) (status : ℕ) → IsBankEnding task width device chips e
-    → SaysOrLacks e taken status → BankSays task width device chips taken status
-bank_says task width device chips e taken status is (inl says) = inl (record { ending = e; is = is; says = says })
-bank_says task width device chips e taken status is (inr lacks) = inr lacks
+pub bank_says : (task : Task) (width : ℕ) (device : Device) (chips : List ChipState) (e : Ending) (before after : SinkState) (status : ℕ) → IsBankEnding task width device chips e
+    → SaysOrLacks e before after status → BankSays task width device chips before after status
+bank_says task width device chips e before after status is (inl says) = inl (record { ending = e; is = is; says = says })
+bank_says task width device chips e before after status is (inr lacks) = inr lacks
 
 -- a task on the file that was found under the name
-named_ends : (task : Task) (told : Option FileMap) (name file : List ℕ) (f g : ℕ) (taken : Taken) (status : ℕ) → IsFound told name (Some file) → length file ≤ 2 ^ 30
-    → EndsIn (IsFileEnding task file) taken status → TaskEnds task told name f g taken status
-named_ends task told name file f g taken status is small so = inl (record {
+named_ends : (task : Task) (name file : List ℕ) (was now : ShelfState) (before after : SinkState) (status : ℕ) → IsFound was.files name (Some file) → length file ≤ 2 ^ 30
+    → EndsIn (IsFileEnding task file) before after status → TaskEnds task name was now before after status
+named_ends task name file was now before after status is small so = inl (record {
   ending = so.ending;
   is = record { found = Some file; is_found = is; is = inr (small, so.is) };
   says = so.says;
 })
 
-pub named_is : (task : Task) (told : Option FileMap) (name file : List ℕ) (f g : ℕ) (taken : Taken) (status : ℕ) → IsFound told name (Some file) → length file ≤ 2 ^ 30
-    → FileSays task file taken status → TaskEnds task told name f g taken status
-named_is task told name file f g taken status is small (inl so) = named_ends task told name file f g taken status is small so
-named_is task told name file f g taken status is small (inr lacks) = inr (inr lacks)
+pub named_is : (task : Task) (name file : List ℕ) (was now : ShelfState) (before after : SinkState) (status : ℕ) → IsFound was.files name (Some file) → length file ≤ 2 ^ 30
+    → FileSays task file before after status → TaskEnds task name was now before after status
+named_is task name file was now before after status is small (inl so) = named_ends task name file was now before after status is small so
+named_is task name file was now before after status is small (inr lacks) = inr (inr lacks)
 
 -- ---- the status of each ending
 
@@ -164,38 +163,38 @@ named_code task told None name e is ending =
 named_code task told (Some file) name e is ending = sized_code task told file name e is ending
 
 -- the same of another task and name, which are these
-pub task_as : (task other_task : Task) (told : Option FileMap) (name other_name : List ℕ) (f g : ℕ) (taken : Taken) (status : ℕ) → task ≡ other_task → name ≡ other_name
-    → TaskEnds task told name f g taken status → TaskEnds other_task told other_name f g taken status
-task_as task other_task told name other_name f g taken status same same_name so =
-    subst (λ (n : List ℕ). TaskEnds other_task told n f g taken status) same_name (subst (λ (t : Task). TaskEnds t told name f g taken status) same so)
+pub task_as : (task other_task : Task) (name other_name : List ℕ) (was now : ShelfState) (before after : SinkState) (status : ℕ) → task ≡ other_task → name ≡ other_name
+    → TaskEnds task name was now before after status → TaskEnds other_task other_name was now before after status
+task_as task other_task name other_name was now before after status same same_name so =
+    subst (λ (n : List ℕ). TaskEnds other_task n was now before after status) same_name (subst (λ (t : Task). TaskEnds t name was now before after status) same so)
 
 -- ---- status 0
 
-says_zero : (e : Ending) (taken : Taken) → Says e taken 0 → (e.code ≡ 0) × Appends taken.before e.text taken.after
-says_zero e taken (inl whole) = (sym whole.0, whole.1)
-says_zero e taken (inr (inl fault)) = absurd (let x = fault.0 in omega arith)
-says_zero e taken (inr (inr lacks)) = absurd (let x = lacks.0 in omega arith)
+says_zero : (e : Ending) (before after : SinkState) → Says e before after 0 → (e.code ≡ 0) × Appends before.taken e.text after.taken
+says_zero e before after (inl whole) = (sym whole.0, whole.1)
+says_zero e before after (inr (inl fault)) = absurd (let x = fault.0 in omega arith)
+says_zero e before after (inr (inr lacks)) = absurd (let x = lacks.0 in omega arith)
 
 -- The task was done, and its text was put.
-pub record DonePut (task : Task) (told : Option FileMap) (name : List ℕ) (taken : Taken) : Type 0 where
+pub record DonePut (task : Task) (told : Option FileMap) (name : List ℕ) (before after : SinkState) : Type 0 where
   pub ending : Ending
   pub under : DoneUnder task told name ending
-  pub text : Appends taken.before ending.text taken.after
+  pub text : Appends before.taken ending.text after.taken
 
-not_zero : (e : Ending) (taken : Taken) → (e.code ≡ 0 → ⊥) → Says e taken 0 → ⊥
-not_zero e taken low says = low (says_zero e taken says).0
+not_zero : (e : Ending) (before after : SinkState) → (e.code ≡ 0 → ⊥) → Says e before after 0 → ⊥
+not_zero e before after low says = low (says_zero e before after says).0
 
-pub done_put : (task : Task) (told : Option FileMap) (name : List ℕ) (f g : ℕ) (taken : Taken) → TaskEnds task told name f g taken 0 → DonePut task told name taken
-done_put task told name f g taken (inl so) =
-    let zero = says_zero so.ending taken so.says in
-    record { ending = so.ending; under = (named_code task told so.is.found name so.ending so.is.is_found so.is.is).1 zero.0; text = zero.1 }
-done_put task told name f g taken (inr (inl fault)) = absurd (not_zero (ends 7 (read_fault name)) taken (λ x. omega arith) fault.1)
-done_put task told name f g taken (inr (inr lacks)) = absurd (not_zero (ends 9 no_memory) taken (λ x. omega arith) lacks)
+pub done_put : (task : Task) (name : List ℕ) (was now : ShelfState) (before after : SinkState) → TaskEnds task name was now before after 0 → DonePut task was.files name before after
+done_put task name was now before after (inl so) =
+    let zero = says_zero so.ending before after so.says in
+    record { ending = so.ending; under = (named_code task was.files so.is.found name so.ending so.is.is_found so.is.is).1 zero.0; text = zero.1 }
+done_put task name was now before after (inr (inl fault)) = absurd (not_zero (ends 7 (read_fault name)) before after (λ x. omega arith) fault.1)
+done_put task name was now before after (inr (inr lacks)) = absurd (not_zero (ends 9 no_memory) before after (λ x. omega arith) lacks)
 
-pub prints : (told : Option FileMap) (name : List ℕ) (at len f g : ℕ) (taken : Taken) → TaskEnds (Read at len) told name f g taken 0
-    → PrintsImage told name at len taken.before taken.after
-prints told name at len f g taken so =
-    let put = done_put (Read at len) told name f g taken so in
+pub prints : (name : List ℕ) (at len : ℕ) (was now : ShelfState) (before after : SinkState) → TaskEnds (Read at len) name was now before after 0
+    → PrintsImage was.files name at len before after
+prints name at len was now before after so =
+    let put = done_put (Read at len) name was now before after so in
     let on = put.under.on in
     let text = on.so ∙ range_text (device_of put.under.file) (chips_of_file put.under.file) at len on.within in
     record {
@@ -203,12 +202,12 @@ prints told name at len f g taken so =
       is_found = put.under.is_found;
       accepted = on.accepted;
       within = on.within;
-      text = subst (λ (e : Ending). Appends taken.before e.text taken.after) text put.text;
+      text = subst (λ (e : Ending). Appends before.taken e.text after.taken) text put.text;
     }
 
-pub shows : (told : Option FileMap) (name : List ℕ) (f g : ℕ) (taken : Taken) → TaskEnds Show told name f g taken 0 → ShowsImage told name taken.before taken.after
-shows told name f g taken so =
-    let put = done_put Show told name f g taken so in
+pub shows : (name : List ℕ) (was now : ShelfState) (before after : SinkState) → TaskEnds Show name was now before after 0 → ShowsImage was.files name before after
+shows name was now before after so =
+    let put = done_put Show name was now before after so in
     let on = put.under.on in
     record {
       file = put.under.file;
@@ -216,28 +215,28 @@ shows told name f g taken so =
       accepted = on.accepted;
       found = on.found;
       is = on.is;
-      text = subst (λ (e : Ending). Appends taken.before e.text taken.after) on.so put.text;
+      text = subst (λ (e : Ending). Appends before.taken e.text after.taken) on.so put.text;
     }
 
 -- ---- status 7
 
-says_seven : (e : Ending) (taken : Taken) → (e.code ≡ 7 → ⊥) → Says e taken 7 → Rose taken.faults_before taken.faults_after
-says_seven e taken low (inl whole) = absurd (low (sym whole.0))
-says_seven e taken low (inr (inl fault)) = fault.1
-says_seven e taken low (inr (inr lacks)) = absurd (let x = lacks.0 in omega arith)
+says_seven : (e : Ending) (before after : SinkState) → (e.code ≡ 7 → ⊥) → Says e before after 7 → Rose before.faults after.faults
+says_seven e before after low (inl whole) = absurd (low (sym whole.0))
+says_seven e before after low (inr (inl fault)) = fault.1
+says_seven e before after low (inr (inr lacks)) = absurd (let x = lacks.0 in omega arith)
 
-fault_of : (task : Task) (told : Option FileMap) (name : List ℕ) (f g : ℕ) (taken : Taken) → TaskEnds task told name f g taken 7
-    → Rose f g ⊎ Rose taken.faults_before taken.faults_after
-fault_of task told name f g taken (inl so) = inr (says_seven so.ending taken (named_code task told so.is.found name so.ending so.is.is_found so.is.is).0 so.says)
-fault_of task told name f g taken (inr (inl fault)) = inl fault.0
-fault_of task told name f g taken (inr (inr lacks)) = inr (says_seven (ends 9 no_memory) taken (λ x. omega arith) lacks)
+fault_of : (task : Task) (name : List ℕ) (was now : ShelfState) (before after : SinkState) → TaskEnds task name was now before after 7
+    → Rose was.faults now.faults ⊎ Rose before.faults after.faults
+fault_of task name was now before after (inl so) = inr (says_seven so.ending before after (named_code task was.files so.is.found name so.ending so.is.is_found so.is.is).0 so.says)
+fault_of task name was now before after (inr (inl fault)) = inl fault.0
+fault_of task name was now before after (inr (inr lacks)) = inr (says_seven (ends 9 no_memory) before after (λ x. omega arith) lacks)
 
-pub task_seven : (task : Task) (told : Option FileMap) (name : List ℕ) (f g status : ℕ) (taken : Taken) → TaskEnds task told name f g taken status → status ≡ 7
-    → Rose f g ⊎ Rose taken.faults_before taken.faults_after
-task_seven task told name f g status taken so is = fault_of task told name f g taken (subst (λ (k : ℕ). TaskEnds task told name f g taken k) is so)
+pub task_seven : (task : Task) (name : List ℕ) (was now : ShelfState) (status : ℕ) (before after : SinkState) → TaskEnds task name was now before after status → status ≡ 7
+    → Rose was.faults now.faults ⊎ Rose before.faults after.faults
+task_seven task name was now status before after so is = fault_of task name was now before after (subst (λ (k : ℕ). TaskEnds task name was now before after k) is so)
 
-pub says_fault : (e : Ending) (taken : Taken) (status f g : ℕ) → (e.code ≡ 7 → ⊥) → Says e taken status → status ≡ 7 → Rose f g ⊎ Rose taken.faults_before taken.faults_after
-says_fault e taken status f g low says is = inr (says_seven e taken low (subst (λ (k : ℕ). Says e taken k) is says))
+pub says_fault : (e : Ending) (before after : SinkState) (status f g : ℕ) → (e.code ≡ 7 → ⊥) → Says e before after status → status ≡ 7 → Rose f g ⊎ Rose before.faults after.faults
+says_fault e before after status f g low says is = inr (says_seven e before after low (subst (λ (k : ℕ). Says e before after k) is says))
 
 -- ---- what can be answered is
 
@@ -259,23 +258,24 @@ sized_answers : (task : Task) (file name : List ℕ) (e : Ending) → length fil
 sized_answers task file name e small can (inl large) = absurd (let x = large.0 in omega arith)
 sized_answers task file name e small can (inr there) = file_answers task file e can there.1
 
-done_says : (f g : ℕ) (taken : Taken) (status : ℕ) (e : Ending) → (e.code ≡ 0) ⊎ (e.code ≡ 9) → Says e taken status → IsDone f g taken status
-done_says f g taken status e (inl zero_is) (inl whole) = inl (whole.0 ∙ zero_is)
-done_says f g taken status e (inr nine_is) (inl whole) = inr (inr (whole.0 ∙ nine_is))
-done_says f g taken status e code (inr (inl fault)) = inr (inl (fault.0, inr fault.1))
-done_says f g taken status e code (inr (inr lacks)) = inr (inr lacks.0)
+done_says : (was now : ShelfState) (before after : SinkState) (status : ℕ) (e : Ending) → (e.code ≡ 0) ⊎ (e.code ≡ 9) → Says e before after status → IsDone was now before after status
+done_says was now before after status e (inl zero_is) (inl whole) = inl (whole.0 ∙ zero_is)
+done_says was now before after status e (inr nine_is) (inl whole) = inr (inr (whole.0 ∙ nine_is))
+done_says was now before after status e code (inr (inl fault)) = inr (inl (fault.0, inr fault.1))
+done_says was now before after status e code (inr (inr lacks)) = inr (inr lacks.0)
 
-done_fault : (f g : ℕ) (taken : Taken) (status : ℕ) (text : List ℕ) → Rose f g → Says (ends 7 text) taken status → IsDone f g taken status
-done_fault f g taken status text rose (inl whole) = inr (inl (whole.0, inl rose))
-done_fault f g taken status text rose (inr (inl fault)) = inr (inl (fault.0, inl rose))
-done_fault f g taken status text rose (inr (inr lacks)) = inr (inr lacks.0)
+done_fault : (was now : ShelfState) (before after : SinkState) (status : ℕ) (text : List ℕ) → Rose was.faults now.faults → Says (ends 7 text) before after status → IsDone was now before after status
+done_fault was now before after status text rose (inl whole) = inr (inl (whole.0, inl rose))
+done_fault was now before after status text rose (inr (inl fault)) = inr (inl (fault.0, inl rose))
+done_fault was now before after status text rose (inr (inr lacks)) = inr (inr lacks.0)
 
 -- a task on a file that can be answered is done
-pub task_done : (task : Task) (files : FileMap) (name file : List ℕ) (f g status : ℕ) (taken : Taken) → TaskEnds task (Some files) name f g taken status
-    → files name ≡ Some file → length file ≤ 2 ^ 30 → CanAnswer task file → IsDone f g taken status
-task_done task files name file f g status taken (inl so) is small can =
-    let same : so.is.found ≡ Some file = sym so.is.is_found ∙ is in
+pub task_done : (task : Task) (files : FileMap) (name file : List ℕ) (was now : ShelfState) (status : ℕ) (before after : SinkState) → was.files ≡ Some files → TaskEnds task name was now before after status
+    → files name ≡ Some file → length file ≤ 2 ^ 30 → CanAnswer task file → IsDone was now before after status
+task_done task files name file was now status before after told (inl so) is small can =
+    let there : IsFound (Some files) name so.is.found = subst (λ (o : Option FileMap). IsFound o name so.is.found) told so.is.is_found in
+    let same : so.is.found ≡ Some file = sym there ∙ is in
     let ending = subst (λ (found : Option (List ℕ)). IsNamedEnding task found name so.ending) same so.is.is in
-    done_says f g taken status so.ending (inl (sized_answers task file name so.ending small can ending)) so.says
-task_done task files name file f g status taken (inr (inl fault)) is small can = done_fault f g taken status (read_fault name) fault.0 fault.1
-task_done task files name file f g status taken (inr (inr lacks)) is small can = done_says f g taken status (ends 9 no_memory) (inr refl) lacks
+    done_says was now before after status so.ending (inl (sized_answers task file name so.ending small can ending)) so.says
+task_done task files name file was now status before after told (inr (inl fault)) is small can = done_fault was now before after status (read_fault name) fault.0 fault.1
+task_done task files name file was now status before after told (inr (inr lacks)) is small can = done_says was now before after status (ends 9 no_memory) (inr refl) lacks

@@ -1,10 +1,9 @@
 -- Files on which a task is done.
 use Rattle.std.specs.Prelude.{◌≡◌, ◌≤◌, ◌+◌, ◌⊎◌, ℕ, List}
 use Rattle.nor_bus.specs.Bus.{bank_size}
-use Rattle.nor_io.specs.Files.{Rose}
+use Rattle.nor_io.specs.Files.{ShelfState, SinkState, Rose}
 use Rattle.norbank.specs.Endings.{chips_of_file}
 use Rattle.norbank.specs.Open.{IsAccepted}
-use Rattle.nor_script.specs.Puts.{Taken}
 use Rattle.norbank.specs.declared.words.Task.{Task}
 use Rattle.norbank.specs.declared.words.Task.TheVariants.{Read, Show}
 
@@ -19,5 +18,5 @@ pub record CanAnswer (task : Task) (file : List ℕ) : Type 0 where
   pub within : IsWithin task (bank_size (chips_of_file file))
 
 -- All was done, or a count of faults rose, or memory ran out.
-abbrev pub IsDone : (shelf_before shelf_after : ℕ) → Taken → ℕ → Type 0
-IsDone f g taken status = (status ≡ 0) ⊎ (((status ≡ 7) × (Rose f g ⊎ Rose taken.faults_before taken.faults_after)) ⊎ (status ≡ 9))
+abbrev pub IsDone : (was now : ShelfState) → (before after : SinkState) → ℕ → Type 0
+IsDone was now before after status = (status ≡ 0) ⊎ (((status ≡ 7) × (Rose was.faults now.faults ⊎ Rose before.faults after.faults)) ⊎ (status ≡ 9))

@@ -7,7 +7,7 @@ use Rattle.nor_cell.specs.declared.device.Device.{Device}
 use Rattle.nor_bus.specs.Bus.{BusState, IsBank, bank_bytes, bank_size}
 use Rattle.nor_bus.specs.Driven.{AllLanes}
 use Rattle.nor_bank.specs.Ranges.{IsReadable}
-use Rattle.nor_io.specs.Files.{FileMap, Appends}
+use Rattle.nor_io.specs.Files.{SinkState, FileMap, Appends}
 use Rattle.nor_image.specs.Image.{image_refusal, device_of, width_of}
 use Rattle.nor_probe.specs.Probed.{refusal, IsFoundOn}
 use Rattle.nor_probe.specs.declared.probing.Found.{Found}
@@ -37,21 +37,21 @@ pub record IsAccepted (file : List ℕ) : Type 0 where
   pub accepted : refusal (width_of file) (chips_of_file file) ≡ None
 
 -- The file under a name stands for a bank that probing accepts, and its bytes were printed.
-pub record PrintsImage (told : Option FileMap) (name : List ℕ) (at len : ℕ) (before after : Option (List ℕ)) : Type 0 where
+pub record PrintsImage (told : Option FileMap) (name : List ℕ) (at len : ℕ) (before after : SinkState) : Type 0 where
   pub file : List ℕ
   pub is_found : IsFound told name (Some file)
   pub accepted : IsAccepted file
   pub within : at + len ≤ bank_size (chips_of_file file)
-  pub text : Appends before (hex_line (bank_bytes (device_of file) (chips_of_file file) at len)) after
+  pub text : Appends before.taken (hex_line (bank_bytes (device_of file) (chips_of_file file) at len)) after.taken
 
 -- The same, and it was printed what the bank is.
-pub record ShowsImage (told : Option FileMap) (name : List ℕ) (before after : Option (List ℕ)) : Type 0 where
+pub record ShowsImage (told : Option FileMap) (name : List ℕ) (before after : SinkState) : Type 0 where
   pub file : List ℕ
   pub is_found : IsFound told name (Some file)
   pub accepted : IsAccepted file
   pub found : Found
   pub is : IsFoundOn (width_of file) (chips_of_file file) found
-  pub text : Appends before (shown_lines (width_of file) found.geometry found.query found.map) after
+  pub text : Appends before.taken (shown_lines (width_of file) found.geometry found.query found.map) after.taken
 
 -- The chips have the cells that they had.
 abbrev pub SameBytes : BusState → BusState → Type 0

@@ -1,17 +1,17 @@
--- How `run` ends, by its words and the two files that it reads.
+-- How a run or a race ends, by its words and the two files that it reads.
 use Rattle.std.specs.Prelude.{◌≡◌, ◌≤◌, ◌<◌, ◌⊎◌, ◌^◌, ℕ, List, ◌++◌, length, Bool, true, false, Option, Some, None, Result, Ok, Err, codes, decimal}
 use Rattle.nor_cell.specs.Chip.{ChipState}
 use Rattle.nor_bus.specs.Bus.{BusState}
 use Rattle.nor_bus.specs.Driven.{AllLanes}
 use Rattle.nor_image.specs.Image.{image_refusal, width_of}
 use Rattle.nor_image.specs.declared.error.ImageError.{ImageError}
-use Rattle.nor_io.specs.Files.{FileMap, Rose, Saves}
+use Rattle.nor_io.specs.Files.{ShelfState, SinkState, FileMap, Rose, Saves}
 use Rattle.nor_probe.specs.Probed.{refusal}
 use Rattle.nor_probe.specs.declared.error.ProbeError.{ProbeError}
 use Rattle.nor_run.specs.Built.{are_built, is_built_bank}
+use Rattle.nor_run.specs.Running.{Untouched}
 use Rattle.nor_run.specs.Scripts.{HasLocks, RunsImage, RunsPartly, ShowsQry}
 use Rattle.nor_run.specs.declared.lines.Ran.{Ran}
-use Rattle.nor_script.specs.Puts.{Taken}
 use Rattle.nor_script.specs.Script.{script_of}
 use Rattle.nor_script.specs.declared.error.LineKind.{LineKind}
 use Rattle.nor_script.specs.declared.error.LineKind.TheVariants.{Bytes, Word, Count, Number, Hex, NotHere}
@@ -19,7 +19,7 @@ use Rattle.nor_script.specs.declared.error.ScriptError.{ScriptError}
 use Rattle.nor_script.specs.declared.error.ScriptError.TheVariants.{BadLine, BadCaller, TooManyLines, NoMemory}
 use Rattle.nor_script.specs.declared.line.Line.{Line}
 use Rattle.norbank.specs.Endings.{Ending, ends, refused_ending, unfound_ending, chips_of_file}
-use Rattle.norbank.specs.Says.{Says, IsFound, EndsIn, Lacks, took}
+use Rattle.norbank.specs.Says.{Says, IsFound, EndsIn, Lacks}
 use Rattle.norbank.specs.Text.{line_of, no_memory, not_built, too_large, absent, read_fault}
 
 -- ---- texts
@@ -88,23 +88,12 @@ IsStop race None text image_name script_name ending = ending ≡ ends 8 (absent 
 IsStop race (Some file) text image_name script_name ending =
     ((2 ^ 30 < length file) × (ending ≡ ends 3 too_large)) ⊎ ((length file ≤ 2 ^ 30) × IsTextStop race file text script_name ending)
 
--- ---- what becomes of the shelf
-
--- the files that a shelf tells, and its counts of faults, before and after
-pub record Shelved : Type 0 where
-  pub before : Option FileMap
-  pub after : Option FileMap
-  pub faults_before : ℕ
-  pub faults_after : ℕ
-
-abbrev pub shelved : Option FileMap → Option FileMap → ℕ → ℕ → Shelved
-shelved before after faults_before faults_after =
-    record { before = before; after = after; faults_before = faults_before; faults_after = faults_after }
+-- ---- what becomes of the files
 
 -- Something stops in one of these ways, or for want of memory, and no file has changed.
-pub record Stops (IsEnding : Ending → Type 0) (shelf : Shelved) (taken : Taken) (status : ℕ) : Type 0 where
-  pub kept : shelf.after ≡ shelf.before
-  pub says : EndsIn IsEnding taken status ⊎ Lacks taken status
+pub record Stops (IsEnding : Ending → Type 0) (was now : ShelfState) (before after : SinkState) (status : ℕ) : Type 0 where
+  pub kept : now.files ≡ was.files
+  pub says : EndsIn IsEnding before after status ⊎ Lacks before after status
 
 -- 0, and 6 where the bank halted
 abbrev pub status_of : Bool → ℕ
@@ -112,33 +101,32 @@ status_of true = 6
 status_of false = 0
 
 -- The bank was saved under its name; or it wasn't, which is told, and no file has changed.
-abbrev pub Saved : (name saved : List ℕ) → Ran → Shelved → Taken → ℕ → Type 0
-Saved name saved ran shelf taken status =
-    ((status ≡ status_of ran.halted) × Saves shelf.before name saved shelf.after × (taken.after ≡ taken.before))
-    ⊎ ((shelf.after ≡ shelf.before)
-    × ((Rose shelf.faults_before shelf.faults_after × Says (ends 7 (write_fault name)) taken status) ⊎ Lacks taken status))
+abbrev pub Saved : (name saved : List ℕ) → Ran → (was now : ShelfState) → (before after : SinkState) → ℕ → Type 0
+Saved name saved ran was now before after status =
+    ((status ≡ status_of ran.halted) × Saves was.files name saved now.files × Untouched before after)
+    ⊎ ((now.files ≡ was.files)
+    × ((Rose was.faults now.faults × Says (ends 7 (write_fault name)) before after status) ⊎ Lacks before after status))
 
 -- ---- a run
 
 -- The report was put whole, and then the bank was to be saved.
-pub record ReportsWhole (race : Bool) (width : ℕ) (lines : List Line) (bus : BusState) (name : List ℕ) (shelf : Shelved) (taken : Taken) (status : ℕ) : Type 0 where
+pub record EndsWhole (race : Bool) (width : ℕ) (lines : List Line) (bus : BusState) (name : List ℕ) (was now : ShelfState) (before after : SinkState) (status : ℕ) : Type 0 where
   pub ran : Ran
   pub saved : List ℕ
-  pub mid : Option (List ℕ)
-  pub faults : ℕ
-  pub runs : AllLanes ShowsQry bus → RunsImage race width lines bus taken.before mid ran saved
-  pub later : taken.faults_before ≤ faults
-  pub ends : Saved name saved ran shelf (took mid taken.after faults taken.faults_after) status
+  pub mid : SinkState
+  pub runs : AllLanes ShowsQry bus → RunsImage race width lines bus before mid ran saved
+  pub later : before.faults ≤ mid.faults
+  pub ends : Saved name saved ran was now mid after status
 
 -- It wasn't put whole, which the sink's count tells, or for want of memory; and no file has changed.
-pub record ReportsPart (race : Bool) (width : ℕ) (lines : List Line) (bus : BusState) (shelf : Shelved) (taken : Taken) (status : ℕ) : Type 0 where
-  pub kept : shelf.after ≡ shelf.before
-  pub runs : AllLanes ShowsQry bus → (new : BusState) × RunsPartly race width lines bus new taken.before taken.after
-  pub ends : ((status ≡ 7) × Rose taken.faults_before taken.faults_after) ⊎ (status ≡ 9)
+pub record EndsPart (race : Bool) (width : ℕ) (lines : List Line) (bus : BusState) (was now : ShelfState) (before after : SinkState) (status : ℕ) : Type 0 where
+  pub kept : now.files ≡ was.files
+  pub runs : AllLanes ShowsQry bus → (new : BusState) × RunsPartly race width lines bus new before after
+  pub ends : ((status ≡ 7) × Rose before.faults after.faults) ⊎ (status ≡ 9)
 
-abbrev pub Runs : (race : Bool) → ℕ → List Line → BusState → List ℕ → Shelved → Taken → ℕ → Type 0
-Runs race width lines bus name shelf taken status =
-    ReportsWhole race width lines bus name shelf taken status ⊎ ReportsPart race width lines bus shelf taken status
+abbrev pub Runs : (race : Bool) → ℕ → List Line → BusState → List ℕ → (was now : ShelfState) → (before after : SinkState) → ℕ → Type 0
+Runs race width lines bus name was now before after status =
+    EndsWhole race width lines bus name was now before after status ⊎ EndsPart race width lines bus was now before after status
 
 -- the bus that a loaded bank of these chips has
 abbrev pub fresh_bus : List ChipState → BusState
@@ -155,43 +143,43 @@ pub record CanRunFile (race : Bool) (file text : List ℕ) (lines : List Line) :
 
 -- ---- stage by stage
 
-abbrev pub BuiltRuns : (race : Bool) → ℕ → List Line → BusState → List ℕ → Shelved → Taken → ℕ → Type 0
-BuiltRuns race width lines bus name shelf taken status =
-    Stops (IsProbeStop width bus.lanes) shelf taken status
-    ⊎ (HasLocks width bus.lanes false × Runs race width lines bus name shelf taken status)
+abbrev pub BuiltRuns : (race : Bool) → ℕ → List Line → BusState → List ℕ → (was now : ShelfState) → (before after : SinkState) → ℕ → Type 0
+BuiltRuns race width lines bus name was now before after status =
+    Stops (IsProbeStop width bus.lanes) was now before after status
+    ⊎ (HasLocks width bus.lanes false × Runs race width lines bus name was now before after status)
 
-abbrev pub LinesRun : (race : Bool) → ℕ → List Line → BusState → List ℕ → Shelved → Taken → ℕ → Type 0
-LinesRun race width lines bus name shelf taken status =
-    Stops (IsLinesStop lines width bus.lanes) shelf taken status
-    ⊎ ((are_built lines ≡ true) × HasLocks width bus.lanes false × Runs race width lines bus name shelf taken status)
+abbrev pub LinesRun : (race : Bool) → ℕ → List Line → BusState → List ℕ → (was now : ShelfState) → (before after : SinkState) → ℕ → Type 0
+LinesRun race width lines bus name was now before after status =
+    Stops (IsLinesStop lines width bus.lanes) was now before after status
+    ⊎ ((are_built lines ≡ true) × HasLocks width bus.lanes false × Runs race width lines bus name was now before after status)
 
 -- a script of lines that are built was run
-pub record RunsText (race : Bool) (width : ℕ) (text : List ℕ) (bus : BusState) (name : List ℕ) (shelf : Shelved) (taken : Taken) (status : ℕ) : Type 0 where
+pub record RunsText (race : Bool) (width : ℕ) (text : List ℕ) (bus : BusState) (name : List ℕ) (was now : ShelfState) (before after : SinkState) (status : ℕ) : Type 0 where
   pub lines : List Line
   pub built : is_built_bank bus.lanes ≡ true
   pub script : script_of race text ≡ Ok lines
   pub lines_built : are_built lines ≡ true
   pub locks : HasLocks width bus.lanes false
-  pub runs : Runs race width lines bus name shelf taken status
+  pub runs : Runs race width lines bus name was now before after status
 
-abbrev pub TextRuns : (race : Bool) → ℕ → List ℕ → BusState → List ℕ → Shelved → Taken → ℕ → Type 0
-TextRuns race width text bus name shelf taken status =
-    Stops (IsBankStop race width bus.lanes text) shelf taken status ⊎ RunsText race width text bus name shelf taken status
+abbrev pub TextRuns : (race : Bool) → ℕ → List ℕ → BusState → List ℕ → (was now : ShelfState) → (before after : SinkState) → ℕ → Type 0
+TextRuns race width text bus name was now before after status =
+    Stops (IsBankStop race width bus.lanes text) was now before after status ⊎ RunsText race width text bus name was now before after status
 
 -- on the bank that a file stands for
-pub record RunsFile (race : Bool) (file text : List ℕ) (name : List ℕ) (shelf : Shelved) (taken : Taken) (status : ℕ) : Type 0 where
+pub record RunsFile (race : Bool) (file text : List ℕ) (name : List ℕ) (was now : ShelfState) (before after : SinkState) (status : ℕ) : Type 0 where
   pub lines : List Line
   pub can : CanRunFile race file text lines
-  pub runs : Runs race (width_of file) lines (fresh_bus (chips_of_file file)) name shelf taken status
+  pub runs : Runs race (width_of file) lines (fresh_bus (chips_of_file file)) name was now before after status
 
-abbrev pub FileRuns : (race : Bool) (file text : List ℕ) → List ℕ → Shelved → Taken → ℕ → Type 0
-FileRuns race file text name shelf taken status = Stops (IsFileStop race file text) shelf taken status ⊎ RunsFile race file text name shelf taken status
+abbrev pub FileRuns : (race : Bool) (file text : List ℕ) → List ℕ → (was now : ShelfState) → (before after : SinkState) → ℕ → Type 0
+FileRuns race file text name was now before after status = Stops (IsFileStop race file text) was now before after status ⊎ RunsFile race file text name was now before after status
 
 -- A file couldn't be read, which the shelf's count tells.
-pub record ReadFails (name : List ℕ) (shelf : Shelved) (taken : Taken) (status : ℕ) : Type 0 where
-  pub kept : shelf.after ≡ shelf.before
-  pub rose : Rose shelf.faults_before shelf.faults_after
-  pub says : Says (ends 7 (read_fault name)) taken status
+pub record ReadFails (name : List ℕ) (was now : ShelfState) (before after : SinkState) (status : ℕ) : Type 0 where
+  pub kept : now.files ≡ was.files
+  pub rose : Rose was.faults now.faults
+  pub says : Says (ends 7 (read_fault name)) before after status
 
 -- what is under the script's name, as far as the shelf tells it, says how the run stops
 pub record IsToldText (race : Bool) (told : Option FileMap) (file script_name : List ℕ) (ending : Ending) : Type 0 where
@@ -200,16 +188,16 @@ pub record IsToldText (race : Bool) (told : Option FileMap) (file script_name : 
   pub is : IsTextStop race file text script_name ending
 
 -- the script under the name was run
-pub record RunsNamed (race : Bool) (file name script_name : List ℕ) (shelf : Shelved) (taken : Taken) (status : ℕ) : Type 0 where
+pub record RunsNamed (race : Bool) (file name script_name : List ℕ) (was now : ShelfState) (before after : SinkState) (status : ℕ) : Type 0 where
   pub text : List ℕ
-  pub is_text : IsFound shelf.before script_name (Some text)
+  pub is_text : IsFound was.files script_name (Some text)
   pub short : length text ≤ 2 ^ 30
-  pub runs : RunsFile race file text name shelf taken status
+  pub runs : RunsFile race file text name was now before after status
 
-abbrev pub NamedRuns : (race : Bool) (file name script_name : List ℕ) → Shelved → Taken → ℕ → Type 0
-NamedRuns race file name script_name shelf taken status =
-    Stops (IsToldText race shelf.before file script_name) shelf taken status
-    ⊎ (ReadFails script_name shelf taken status ⊎ RunsNamed race file name script_name shelf taken status)
+abbrev pub NamedRuns : (race : Bool) (file name script_name : List ℕ) → (was now : ShelfState) → (before after : SinkState) → ℕ → Type 0
+NamedRuns race file name script_name was now before after status =
+    Stops (IsToldText race was.files file script_name) was now before after status
+    ⊎ (ReadFails script_name was now before after status ⊎ RunsNamed race file name script_name was now before after status)
 
 -- and what is under both names
 pub record IsToldStop (race : Bool) (told : Option FileMap) (name script_name : List ℕ) (ending : Ending) : Type 0 where
@@ -220,21 +208,21 @@ pub record IsToldStop (race : Bool) (told : Option FileMap) (name script_name : 
   pub is : IsStop race file text name script_name ending
 
 -- The script was run on the bank.
-pub record RunsTold (race : Bool) (name script_name : List ℕ) (shelf : Shelved) (taken : Taken) (status : ℕ) : Type 0 where
+pub record RunsTold (race : Bool) (name script_name : List ℕ) (was now : ShelfState) (before after : SinkState) (status : ℕ) : Type 0 where
   pub file : List ℕ
-  pub is_file : IsFound shelf.before name (Some file)
+  pub is_file : IsFound was.files name (Some file)
   pub few_bytes : length file ≤ 2 ^ 30
-  pub runs : RunsNamed race file name script_name shelf taken status
+  pub runs : RunsNamed race file name script_name was now before after status
 
 -- The image was read, and then the script couldn't be.
-pub record ScriptFails (name script_name : List ℕ) (shelf : Shelved) (taken : Taken) (status : ℕ) : Type 0 where
+pub record ScriptFails (name script_name : List ℕ) (was now : ShelfState) (before after : SinkState) (status : ℕ) : Type 0 where
   pub file : List ℕ
-  pub is_file : IsFound shelf.before name (Some file)
+  pub is_file : IsFound was.files name (Some file)
   pub few_bytes : length file ≤ 2 ^ 30
-  pub fails : ReadFails script_name shelf taken status
+  pub fails : ReadFails script_name was now before after status
 
 -- A run stops as the files under its names say, or as one of them can't be read, or the script was run.
-abbrev pub RunEnds : (race : Bool) (name script_name : List ℕ) → Shelved → Taken → ℕ → Type 0
-RunEnds race name script_name shelf taken status =
-    Stops (IsToldStop race shelf.before name script_name) shelf taken status
-    ⊎ ((ReadFails name shelf taken status ⊎ ScriptFails name script_name shelf taken status) ⊎ RunsTold race name script_name shelf taken status)
+abbrev pub RunEnds : (race : Bool) (name script_name : List ℕ) → (was now : ShelfState) → (before after : SinkState) → ℕ → Type 0
+RunEnds race name script_name was now before after status =
+    Stops (IsToldStop race was.files name script_name) was now before after status
+    ⊎ ((ReadFails name was now before after status ⊎ ScriptFails name script_name was now before after status) ⊎ RunsTold race name script_name was now before after status)

@@ -8,7 +8,7 @@ ghost use Rattle.nor_probe.specs.Probed.{refusal, IsFoundOn};
 ghost use Rattle.nor_probe.specs.declared.error.ProbeError.TheVariants.{Off as LostPower};
 ghost use Rattle.norbank.specs.Endings.{ends, range_ending, show_ending, unfound_ending};
 ghost use Rattle.norbank.specs.Open.{IsPowered, IsIdleChip, IsOpen, SameBytes};
-ghost use Rattle.norbank.specs.Says.{Says, SaysOrLacks, BankSays, took};
+ghost use Rattle.norbank.specs.Says.{Says, SaysOrLacks, BankSays};
 ghost use Rattle.norbank.specs.Text.{line_of, no_memory};
 
 use crate::printing::print_bytes;
@@ -51,8 +51,10 @@ fn print_range<W: BusWord, B: Bus<W>, K: Sink>(
     out: &mut K,
 ) -> Status
     requires { IsOpen (B.state bus.old) }
-    ensures says { (device : Device) → IsBank W.WIDTH device (B.state bus.old).lanes → Says (range_ending device (B.state bus.old).lanes at len) (took (K.taken out.old) (K.taken out.new) (K.faults out.old) (K.faults out.new)) result.code }
-    ensures later { K.faults out.old ≤ K.faults out.new }
+    ensures says { (device : Device) → IsBank W.WIDTH device (B.state bus.old).lanes
+        → Says (range_ending device (B.state bus.old).lanes at len)
+        (K.state out.old) (K.state out.new) result.code }
+    ensures later { (K.state out.old).faults ≤ (K.state out.new).faults }
 {
     if u64::from(at) + u64::from(len) > size_of::<W, B>(bus) {
         return say(10, b"out of range\n", out);
@@ -64,9 +66,10 @@ fn print_range<W: BusWord, B: Bus<W>, K: Sink>(
 // Puts a line whose end is made, where memory suffices.
 fn say_made<K: Sink>(code: u8, head: &[u8], tail: Result<String, AllocError>, out: &mut K) -> Status
     ensures says { MatchResult tail
-        (λ text. Says (ends code (line_of head.now (string_bytes text))) (took (K.taken out.old) (K.taken out.new) (K.faults out.old) (K.faults out.new)) result.code)
-        (λ _. Says (ends 9 no_memory) (took (K.taken out.old) (K.taken out.new) (K.faults out.old) (K.faults out.new)) result.code) }
-    ensures later { K.faults out.old ≤ K.faults out.new }
+        (λ text. Says (ends code (line_of head.now (string_bytes text)))
+        (K.state out.old) (K.state out.new) result.code)
+        (λ _. Says (ends 9 no_memory) (K.state out.old) (K.state out.new) result.code) }
+    ensures later { (K.state out.old).faults ≤ (K.state out.new).faults }
 {
     match tail {
         Ok(text) => say_line(code, head, text.as_bytes(), out),
@@ -77,8 +80,9 @@ fn say_made<K: Sink>(code: u8, head: &[u8], tail: Result<String, AllocError>, ou
 // Says why probing refuses the bank.
 pub fn say_unfound<K: Sink>(alloc: Global, error: ProbeError, out: &mut K) -> Status
     requires { error ≢ LostPower }
-    ensures says { SaysOrLacks (unfound_ending error) (took (K.taken out.old) (K.taken out.new) (K.faults out.old) (K.faults out.new)) result.code }
-    ensures later { K.faults out.old ≤ K.faults out.new }
+    ensures says { SaysOrLacks (unfound_ending error)
+        (K.state out.old) (K.state out.new) result.code }
+    ensures later { (K.state out.old).faults ≤ (K.state out.new).faults }
 {
     match error {
         ProbeError::NoAnswer => say(5, b"probe: no answer\n", out),
@@ -102,8 +106,9 @@ pub fn say_unfound<K: Sink>(alloc: Global, error: ProbeError, out: &mut K) -> St
 // Prints what the bank is.
 fn say_found<K: Sink>(alloc: Global, width: u8, found: &Found, out: &mut K) -> Status
     requires { found.now.query.size_log ≤ 27 }
-    ensures says { SaysOrLacks (show_ending width found.now) (took (K.taken out.old) (K.taken out.new) (K.faults out.old) (K.faults out.new)) result.code }
-    ensures later { K.faults out.old ≤ K.faults out.new }
+    ensures says { SaysOrLacks (show_ending width found.now)
+        (K.state out.old) (K.state out.new) result.code }
+    ensures later { (K.state out.old).faults ≤ (K.state out.new).faults }
 {
     match show_text(alloc, width, found.geometry, &found.query, &found.map) {
         Ok(text) => say(0, text.as_bytes(), out),
@@ -120,8 +125,10 @@ pub fn answer<W: BusWord, B: Bus<W>, K: Sink>(
 ) -> Status
     requires powered { IsPowered (B.state bus.old) }
     requires idle { AllLanes IsIdleChip (B.state bus.old) }
-    ensures says { (device : Device) → IsBank W.WIDTH device (B.state bus.old).lanes → BankSays task W.WIDTH device (B.state bus.old).lanes (took (K.taken out.old) (K.taken out.new) (K.faults out.old) (K.faults out.new)) result.code }
-    ensures later { K.faults out.old ≤ K.faults out.new }
+    ensures says { (device : Device) → IsBank W.WIDTH device (B.state bus.old).lanes
+        → BankSays task W.WIDTH device (B.state bus.old).lanes
+        (K.state out.old) (K.state out.new) result.code }
+    ensures later { (K.state out.old).faults ≤ (K.state out.new).faults }
 {
     match found_on::<W, B>(bus) {
         Ok(found) => match task {

@@ -1,26 +1,25 @@
 //! The bank and the script that a run or a race begins with, stage by stage.
 ghost use Rattle.std.specs.Prelude.{◌≤◌, ◌^◌, ◌≡◌, ℕ, List, length, true, Bool, Option, IfOk, IfErr, OnOk};
 ghost use Rattle.nor_image.specs.Loaded.{bus_of, loaded_width};
-ghost use Rattle.nor_io.specs.Files.{FileMap};
+ghost use Rattle.nor_io.specs.Files.{ShelfState, SinkState};
 ghost use Rattle.nor_run.specs.Built.{is_built_bank};
 ghost use Rattle.nor_run.specs.Running.{Untouched};
-ghost use Rattle.nor_run.specs.Scripts.{IsLoaded};
-ghost use Rattle.nor_script.specs.Puts.{Taken};
+ghost use Rattle.nor_run.specs.Scripts.{IsLoaded, HasRoom};
 ghost use Rattle.nor_script.specs.Script.{IsScript};
 ghost use Rattle.norbank.specs.Jobs.{IsReady, GoesOn};
-ghost use Rattle.norbank.specs.Runs.{Shelved, shelved, BuiltRuns, LinesRun, TextRuns, FileRuns, NamedRuns, RunEnds};
-ghost use Rattle.norbank.specs.Says.{took};
+ghost use Rattle.norbank.specs.Runs.{BuiltRuns, LinesRun, TextRuns, FileRuns, NamedRuns, RunEnds};
 
 use crate::loading::say_refused;
 use crate::script::say_no_script;
 use crate::status::{Status, say, say_line};
-use nor_image::{Loaded, read_image};
+use nor_image::{Loaded, read_image, write_image};
 use nor_io::{LoadError, Shelf, Sink};
 use nor_run::{are_built, is_built};
 use nor_script::{Script, parse_script};
 use std::alloc::Global;
 
-/// A bank that was loaded, the bytes of its file, and the script that is to be run on it.
+/// A bank that was loaded, the file of version 2 that it is to be saved as, and the script that is to be run
+/// on it.
 #[derive(Drop)]
 pub struct Job {
     pub file: Vec<u8>,
@@ -28,54 +27,62 @@ pub struct Job {
     pub script: Script,
 }
 
-// A script of lines that are built.
+// A script of lines that are built. Room for the file to save is taken here, before the first line is run.
 fn job_of_lines<K: Sink>(
-    file: Vec<u8>,
+    alloc: Global,
     loaded: Loaded,
     script: Script,
     out: &mut K,
 ) -> Result<Job, Status>
-    requires loaded { IsLoaded file.items loaded }
+    requires loaded { IsLoaded loaded }
     requires built { is_built_bank (bus_of loaded).lanes ≡ true }
     requires script { IsScript script }
     ensures ready { IfOk result IsReady }
-    ensures goes { IfOk result (λ job. (race : Bool) → GoesOn race job (LinesRun race (loaded_width loaded) script (bus_of loaded))) }
-    ensures ends { IfErr result (λ status. (race : Bool) (name : List ℕ) (files : Option FileMap) (f g : ℕ)
-        → LinesRun race (loaded_width loaded) script (bus_of loaded) name (shelved files files f g) (took (K.taken out.old) (K.taken out.new) (K.faults out.old) (K.faults out.new)) status.code) }
-    ensures untouched { OnOk result (Untouched (took (K.taken out.old) (K.taken out.new) (K.faults out.old) (K.faults out.new))) }
+    ensures goes { IfOk result (λ job. (race : Bool)
+        → GoesOn race job (LinesRun race (loaded_width loaded) script (bus_of loaded))) }
+    ensures ends { IfErr result (λ status. (race : Bool) (name : List ℕ) (was now : ShelfState)
+        → now.files ≡ was.files
+        → LinesRun race (loaded_width loaded) script (bus_of loaded) name was now
+        (K.state out.old) (K.state out.new) status.code) }
+    ensures untouched { OnOk result (Untouched (K.state out.old) (K.state out.new)) }
 {
     if !are_built(script.lines()) {
         return Err(say(11, b"not built\n", out));
     }
-    Ok(Job {
-        file,
-        loaded,
-        script,
-    })
+    match write_image(alloc, &loaded) {
+        Ok(file) => Ok(Job {
+            file,
+            loaded,
+            script,
+        }),
+        Err(_) => Err(say(9, b"no memory\n", out)),
+    }
 }
 
 // The script that a text says, for a bank that was loaded.
 fn job_of_text<K: Sink>(
     alloc: Global,
-    file: Vec<u8>,
     loaded: Loaded,
     text: &[u8],
     race: bool,
     out: &mut K,
 ) -> Result<Job, Status>
-    requires loaded { IsLoaded file.items loaded }
+    requires loaded { IsLoaded loaded }
     requires small { length text.now ≤ 2 ^ 30 }
     ensures ready { IfOk result IsReady }
-    ensures goes { IfOk result (λ job. GoesOn race job (TextRuns race (loaded_width loaded) text.now (bus_of loaded))) }
-    ensures ends { IfErr result (λ status. (name : List ℕ) (files : Option FileMap) (f g : ℕ)
-        → TextRuns race (loaded_width loaded) text.now (bus_of loaded) name (shelved files files f g) (took (K.taken out.old) (K.taken out.new) (K.faults out.old) (K.faults out.new)) status.code) }
-    ensures untouched { OnOk result (Untouched (took (K.taken out.old) (K.taken out.new) (K.faults out.old) (K.faults out.new))) }
+    ensures goes { IfOk result (λ job.
+        GoesOn race job (TextRuns race (loaded_width loaded) text.now (bus_of loaded))) }
+    ensures ends { IfErr result (λ status. (name : List ℕ) (was now : ShelfState)
+        → now.files ≡ was.files
+        → TextRuns race (loaded_width loaded) text.now (bus_of loaded) name was now
+        (K.state out.old) (K.state out.new) status.code) }
+    ensures untouched { OnOk result (Untouched (K.state out.old) (K.state out.new)) }
 {
     if !is_built(&loaded) {
         return Err(say(11, b"not built\n", out));
     }
     match parse_script(alloc, text, race) {
-        Ok(script) => job_of_lines(file, loaded, script, out),
+        Ok(script) => job_of_lines(alloc, loaded, script, out),
         Err(error) => Err(say_no_script(error, out)),
     }
 }
@@ -91,12 +98,14 @@ fn job_of_file<K: Sink>(
     requires small { length text.now ≤ 2 ^ 30 }
     ensures ready { IfOk result IsReady }
     ensures goes { IfOk result (λ job. GoesOn race job (FileRuns race file.items text.now)) }
-    ensures ends { IfErr result (λ status. (name : List ℕ) (files : Option FileMap) (f g : ℕ)
-        → FileRuns race file.items text.now name (shelved files files f g) (took (K.taken out.old) (K.taken out.new) (K.faults out.old) (K.faults out.new)) status.code) }
-    ensures untouched { OnOk result (Untouched (took (K.taken out.old) (K.taken out.new) (K.faults out.old) (K.faults out.new))) }
+    ensures ends { IfErr result (λ status. (name : List ℕ) (was now : ShelfState)
+        → now.files ≡ was.files
+        → FileRuns race file.items text.now name was now
+        (K.state out.old) (K.state out.new) status.code) }
+    ensures untouched { OnOk result (Untouched (K.state out.old) (K.state out.new)) }
 {
     match read_image(alloc, &file) {
-        Ok(loaded) => job_of_text(alloc, file, loaded, text, race, out),
+        Ok(loaded) => job_of_text(alloc, loaded, text, race, out),
         Err(error) => Err(say_refused(error, out)),
     }
 }
@@ -112,13 +121,16 @@ fn job_of_named<H: Shelf, K: Sink>(
     out: &mut K,
 ) -> Result<Job, Status>
     ensures ready { IfOk result IsReady }
-    ensures goes { IfOk result (λ job. (after : Option FileMap) (faults : ℕ) (taken : Taken) (status : ℕ)
-        → BuiltRuns race (loaded_width job.loaded) job.script (bus_of job.loaded) name.now (shelved (H.files shelf.new) after (H.faults shelf.new) faults) taken status
-        → NamedRuns race file.items name.now script.now (shelved (H.files shelf.old) after (H.faults shelf.old) faults) taken status) }
-    ensures ends { IfErr result (λ status. NamedRuns race file.items name.now script.now (shelved (H.files shelf.old) (H.files shelf.new) (H.faults shelf.old) (H.faults shelf.new)) (took (K.taken out.old) (K.taken out.new) (K.faults out.old) (K.faults out.new)) status.code) }
-    ensures untouched { OnOk result (Untouched (took (K.taken out.old) (K.taken out.new) (K.faults out.old) (K.faults out.new))) }
-    ensures same { H.files shelf.new ≡ H.files shelf.old }
-    ensures later { H.faults shelf.old ≤ H.faults shelf.new }
+    ensures goes { IfOk result (λ job. (now : ShelfState) (before after : SinkState) (status : ℕ)
+        → BuiltRuns race (loaded_width job.loaded) job.script (bus_of job.loaded) name.now
+        (H.state shelf.new) now before after status
+        → NamedRuns race file.items name.now script.now
+        (H.state shelf.old) now before after status) }
+    ensures ends { IfErr result (λ status. NamedRuns race file.items name.now script.now
+        (H.state shelf.old) (H.state shelf.new) (K.state out.old) (K.state out.new) status.code) }
+    ensures untouched { OnOk result (Untouched (K.state out.old) (K.state out.new)) }
+    ensures same { (H.state shelf.new).files ≡ (H.state shelf.old).files }
+    ensures later { (H.state shelf.old).faults ≤ (H.state shelf.new).faults }
 {
     match shelf.load(alloc, script) {
         Ok(text) => job_of_file(alloc, file, &text, race, out),
@@ -140,11 +152,13 @@ pub fn job_of<H: Shelf, K: Sink>(
     out: &mut K,
 ) -> Result<Job, Status>
     ensures ready { IfOk result IsReady }
-    ensures goes { IfOk result (λ job. (after : Option FileMap) (faults : ℕ) (taken : Taken) (status : ℕ)
-        → BuiltRuns race (loaded_width job.loaded) job.script (bus_of job.loaded) name.now (shelved (H.files shelf.new) after (H.faults shelf.new) faults) taken status
-        → RunEnds race name.now script.now (shelved (H.files shelf.old) after (H.faults shelf.old) faults) taken status) }
-    ensures ends { IfErr result (λ status. RunEnds race name.now script.now (shelved (H.files shelf.old) (H.files shelf.new) (H.faults shelf.old) (H.faults shelf.new)) (took (K.taken out.old) (K.taken out.new) (K.faults out.old) (K.faults out.new)) status.code) }
-    ensures untouched { OnOk result (Untouched (took (K.taken out.old) (K.taken out.new) (K.faults out.old) (K.faults out.new))) }
+    ensures goes { IfOk result (λ job. (now : ShelfState) (before after : SinkState) (status : ℕ)
+        → BuiltRuns race (loaded_width job.loaded) job.script (bus_of job.loaded) name.now
+        (H.state shelf.new) now before after status
+        → RunEnds race name.now script.now (H.state shelf.old) now before after status) }
+    ensures ends { IfErr result (λ status. RunEnds race name.now script.now
+        (H.state shelf.old) (H.state shelf.new) (K.state out.old) (K.state out.new) status.code) }
+    ensures untouched { OnOk result (Untouched (K.state out.old) (K.state out.new)) }
 {
     match shelf.load(alloc, name) {
         Ok(file) => job_of_named(alloc, name, file, script, race, shelf, out),

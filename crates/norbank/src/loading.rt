@@ -6,7 +6,7 @@ ghost use Rattle.nor_bus.specs.Driven.{AllLanes};
 ghost use Rattle.nor_image.specs.Loaded.{bus_of, loaded_width};
 ghost use Rattle.norbank.specs.Endings.{refused_ending};
 ghost use Rattle.norbank.specs.Open.{IsPowered, IsIdleChip};
-ghost use Rattle.norbank.specs.Says.{Says, BankSays, FileSays, took};
+ghost use Rattle.norbank.specs.Says.{Says, BankSays, FileSays};
 
 use crate::answering::answer;
 use crate::status::{Status, say, say_line};
@@ -28,8 +28,9 @@ fn answer_of<W: BusWord, C: Chip + Drop, K: Sink>(
 ) -> Status
     requires powered { IsPowered bank }
     requires idle { AllLanes IsIdleChip bank }
-    ensures says { (device : Device) → IsBank W.WIDTH device bank.lanes → BankSays task W.WIDTH device bank.lanes (took (K.taken out.old) (K.taken out.new) (K.faults out.old) (K.faults out.new)) result.code }
-    ensures later { K.faults out.old ≤ K.faults out.new }
+    ensures says { (device : Device) → IsBank W.WIDTH device bank.lanes
+        → BankSays task W.WIDTH device bank.lanes (K.state out.old) (K.state out.new) result.code }
+    ensures later { (K.state out.old).faults ≤ (K.state out.new).faults }
 {
     let mut bank = bank;
     answer::<W, SimBank<W, C>, K>(alloc, &mut bank, task, out)
@@ -39,16 +40,18 @@ fn answer_of<W: BusWord, C: Chip + Drop, K: Sink>(
 fn answer_loaded<K: Sink>(alloc: Global, loaded: Loaded, task: Task, out: &mut K) -> Status
     requires powered { IsPowered (bus_of loaded) }
     requires idle { AllLanes IsIdleChip (bus_of loaded) }
-    ensures says { (device : Device) → IsBank (loaded_width loaded) device (bus_of loaded).lanes → BankSays task (loaded_width loaded) device (bus_of loaded).lanes (took (K.taken out.old) (K.taken out.new) (K.faults out.old) (K.faults out.new)) result.code }
-    ensures later { K.faults out.old ≤ K.faults out.new }
+    ensures says { (device : Device) → IsBank (loaded_width loaded) device (bus_of loaded).lanes
+        → BankSays task (loaded_width loaded) device (bus_of loaded).lanes
+        (K.state out.old) (K.state out.new) result.code }
+    ensures later { (K.state out.old).faults ≤ (K.state out.new).faults }
 {
     with_bank!(loaded, bank => answer_of(alloc, bank, task, out))
 }
 
 // Says why no bank is made of a file.
 pub fn say_refused<K: Sink>(error: ImageError, out: &mut K) -> Status
-    ensures says { Says (refused_ending error) (took (K.taken out.old) (K.taken out.new) (K.faults out.old) (K.faults out.new)) result.code }
-    ensures later { K.faults out.old ≤ K.faults out.new }
+    ensures says { Says (refused_ending error) (K.state out.old) (K.state out.new) result.code }
+    ensures later { (K.state out.old).faults ≤ (K.state out.new).faults }
 {
     let mut number = Buffer::new();
     match error {
@@ -87,8 +90,8 @@ pub fn say_refused<K: Sink>(error: ImageError, out: &mut K) -> Status
 /// Does a task on the bank that a file stands for.
 pub fn answer_file<K: Sink>(alloc: Global, file: &[u8], task: Task, out: &mut K) -> Status
     requires { length file.now ≤ 2 ^ 30 }
-    ensures says { FileSays task file.now (took (K.taken out.old) (K.taken out.new) (K.faults out.old) (K.faults out.new)) result.code }
-    ensures later { K.faults out.old ≤ K.faults out.new }
+    ensures says { FileSays task file.now (K.state out.old) (K.state out.new) result.code }
+    ensures later { (K.state out.old).faults ≤ (K.state out.new).faults }
 {
     match read_image(alloc, file) {
         Ok(loaded) => answer_loaded(alloc, loaded, task, out),

@@ -4,9 +4,9 @@
 //! promises: how each command ends, with which text and status, by the words and the bytes of the
 //! files, as `specs/AsAsked.antt` and `specs/Ran.antt` say. It races a script itself and hands every other
 //! command to `quiet`, which waits for nobody. `words` reads the words, `loading` makes a bank of the file,
-//! `answering` probes the bank and does what is asked of it, `printing` puts bytes as text; `jobs` takes the
-//! bank and the script of a run or a race, `running` runs or races them and saves the bank, `script` says what is wrong with a
-//! script. It stands on nor_image for the file, on nor_probe, nor_show and nor_bank for the bank, on
+//! `answering` probes the bank and does what is asked of it, `printing` puts bytes as text; `jobs` takes
+//! the bank and the script of a run or a race, `running` runs or races them and saves the bank, `script`
+//! says what is wrong with a script. It stands on nor_image for the file, on nor_probe, nor_show and nor_bank for the bank, on
 //! nor_script, nor_run and nor_race for scripts, and on nor_io for files and output.
 #![tactic(auto)]
 

@@ -3,30 +3,16 @@ ghost use Rattle.hex.specs.Hex.{encode_lower};
 ghost use Rattle.nor_cell.specs.declared.device.Device.{Device};
 ghost use Rattle.nor_bus.specs.Bus.{IsBank, units_of, bank_bytes};
 ghost use Rattle.norbank.specs.Open.{IsOpen};
-ghost use Rattle.norbank.specs.Says.{took};
-ghost use Rattle.nor_script.specs.Puts.{PutsText};
+ghost use Rattle.nor_io.specs.Puts.{PutsText};
 ghost use Rattle.norbank.specs.Text.{hex_line};
 
-use crate::status::put_text;
 use nor_bank::read_range;
 use nor_bus::Bus;
-use nor_io::{Sink, SinkError};
+use nor_io::{Sink, SinkError, put_hex};
 use nor_word::BusWord;
 
 // The most bytes that are read at once.
 const PIECE: usize = 4096;
-
-// Puts the hex text of at most one piece.
-fn put_hex<K: Sink>(bytes: &[u8], out: &mut K) -> Result<(), SinkError>
-    requires { length bytes.now ≤ 4096 }
-    ensures puts { PutsText (encode_lower bytes.now) (took (K.taken out.old) (K.taken out.new) (K.faults out.old) (K.faults out.new)) result }
-    ensures later { K.faults out.old ≤ K.faults out.new }
-{
-    let mut text = [0u8; 2 * 4096];
-    let whole = &mut text[..2 * bytes.len()];
-    hex::encode_to_slice(bytes, whole).unwrap();
-    put_text(whole, out)
-}
 
 // Reads one piece of the bank, and puts its hex text.
 fn put_piece<W: BusWord, B: Bus<W>, K: Sink>(
@@ -41,11 +27,13 @@ fn put_piece<W: BusWord, B: Bus<W>, K: Sink>(
     requires few { at + length piece.old < 2 ^ 32 }
     requires within { at + length piece.old ≤ units_of (B.state bus.old) * W.WIDTH }
     requires wired { (device : Device) × IsBank W.WIDTH device (B.state bus.old).lanes }
-    ensures puts { (device : Device) → IsBank W.WIDTH device (B.state bus.old).lanes → PutsText (encode_lower (bank_bytes device (B.state bus.old).lanes at (length piece.old))) (took (K.taken out.old) (K.taken out.new) (K.faults out.old) (K.faults out.new)) result }
+    ensures puts { (device : Device) → IsBank W.WIDTH device (B.state bus.old).lanes
+        → PutsText (encode_lower (bank_bytes device (B.state bus.old).lanes at (length piece.old)))
+        (K.state out.old) (K.state out.new) result }
     ensures same { (B.state bus.new).lanes ≡ (B.state bus.old).lanes }
     ensures open { IsOpen (B.state bus.new) }
     ensures units { units_of (B.state bus.new) ≡ units_of (B.state bus.old) }
-    ensures later { K.faults out.old ≤ K.faults out.new }
+    ensures later { (K.state out.old).faults ≤ (K.state out.new).faults }
 {
     read_range::<W, B>(bus, at, piece).unwrap();
     put_hex(piece, out)
@@ -62,8 +50,10 @@ fn put_pieces<W: BusWord, B: Bus<W>, K: Sink>(
     requires few { at + len < 2 ^ 32 }
     requires within { at + len ≤ units_of (B.state bus.old) * W.WIDTH }
     requires wired { (device : Device) × IsBank W.WIDTH device (B.state bus.old).lanes }
-    ensures puts { (device : Device) → IsBank W.WIDTH device (B.state bus.old).lanes → PutsText (encode_lower (bank_bytes device (B.state bus.old).lanes at len)) (took (K.taken out.old) (K.taken out.new) (K.faults out.old) (K.faults out.new)) result }
-    ensures later { K.faults out.old ≤ K.faults out.new }
+    ensures puts { (device : Device) → IsBank W.WIDTH device (B.state bus.old).lanes
+        → PutsText (encode_lower (bank_bytes device (B.state bus.old).lanes at len))
+        (K.state out.old) (K.state out.new) result }
+    ensures later { (K.state out.old).faults ≤ (K.state out.new).faults }
 {
     let mut buffer = [0u8; PIECE];
     let mut done = 0u32;
@@ -89,14 +79,16 @@ pub fn print_bytes<W: BusWord, B: Bus<W>, K: Sink>(
     requires few { at + len < 2 ^ 32 }
     requires within { at + len ≤ units_of (B.state bus.old) * W.WIDTH }
     requires wired { (device : Device) × IsBank W.WIDTH device (B.state bus.old).lanes }
-    ensures puts { (device : Device) → IsBank W.WIDTH device (B.state bus.old).lanes → PutsText (hex_line (bank_bytes device (B.state bus.old).lanes at len)) (took (K.taken out.old) (K.taken out.new) (K.faults out.old) (K.faults out.new)) result }
-    ensures later { K.faults out.old ≤ K.faults out.new }
+    ensures puts { (device : Device) → IsBank W.WIDTH device (B.state bus.old).lanes
+        → PutsText (hex_line (bank_bytes device (B.state bus.old).lanes at len))
+        (K.state out.old) (K.state out.new) result }
+    ensures later { (K.state out.old).faults ≤ (K.state out.new).faults }
 {
     if len == 0 {
-        return put_text(b"-\n", out);
+        return out.put(b"-\n");
     }
     match put_pieces::<W, B, K>(bus, at, len, out) {
-        Ok(()) => put_text(b"\n", out),
+        Ok(()) => out.put(b"\n"),
         Err(error) => Err(error),
     }
 }

@@ -1,9 +1,9 @@
+//! The top call.
 ghost use Rattle.std.specs.Prelude.{◌≡◌, ◌≢◌, true};
 ghost use Rattle.norbank.specs.AsAsked.{EndsAsAsked};
 ghost use Rattle.norbank.specs.Endings.{ends};
 ghost use Rattle.norbank.specs.Ran.{EndsScript};
-ghost use Rattle.norbank.specs.Runs.{shelved};
-ghost use Rattle.norbank.specs.Says.{Says, took};
+ghost use Rattle.norbank.specs.Says.{Says};
 ghost use Rattle.norbank.specs.Text.{usage};
 ghost use Rattle.norbank.specs.Words.{word_at, asked};
 
@@ -35,13 +35,17 @@ pub fn norbank<R: Threads + Wait + Sync, H: Shelf, K: Sink, G: Gate + Sync>(
     // Whatever the schedule of the threads: what a race has printed is the report of one history, which is
     // legal from the image's bytes and has each caller's lines in their order; and the image has the bytes
     // after it.
-    ensures race { asked words.now ≡ Command.Race → EndsScript true (word_at words.now 1) (word_at words.now 2) (shelved (H.files shelf.old) (H.files shelf.new) (H.faults shelf.old) (H.faults shelf.new)) (took (K.taken out.old) (K.taken out.new) (K.faults out.old) (K.faults out.new)) result.code }
-    ensures ends { EndsAsAsked words.now (shelved (H.files shelf.old) (H.files shelf.new) (H.faults shelf.old) (H.faults shelf.new)) (took (K.taken out.old) (K.taken out.new) (K.faults out.old) (K.faults out.new)) result.code }
+    ensures race { asked words.now ≡ Command.Race
+        → EndsScript true (word_at words.now 1) (word_at words.now 2)
+        (H.state shelf.old) (H.state shelf.new) (K.state out.old) (K.state out.new) result.code }
+    ensures ends { EndsAsAsked words.now (H.state shelf.old) (H.state shelf.new)
+        (K.state out.old) (K.state out.new) result.code }
     ensures usage { asked words.now ≡ Command.Unknown
-        → Says (ends 2 usage) (took (K.taken out.old) (K.taken out.new) (K.faults out.old) (K.faults out.new)) result.code }
+        → Says (ends 2 usage) (K.state out.old) (K.state out.new) result.code }
 
     // Only a script that is run or raced may change files.
-    ensures same { asked words.now ≢ Command.Run → asked words.now ≢ Command.Race → H.files shelf.new ≡ H.files shelf.old }
+    ensures same { asked words.now ≢ Command.Run → asked words.now ≢ Command.Race
+        → (H.state shelf.new).files ≡ (H.state shelf.old).files }
 {
     match command_of(words) {
         Command::Race => race(rt, alloc, word(words, 1), word(words, 2), shelf, out, gate),

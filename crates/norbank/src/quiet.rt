@@ -1,8 +1,8 @@
+//! All commands but the race.
 ghost use Rattle.std.specs.Prelude.{◌≡◌, ◌≢◌, ◌⊎◌};
 ghost use Rattle.norbank.specs.AsAsked.{EndsAsAsked};
 ghost use Rattle.norbank.specs.Endings.{ends};
-ghost use Rattle.norbank.specs.Runs.{shelved};
-ghost use Rattle.norbank.specs.Says.{Says, TaskEnds, took};
+ghost use Rattle.norbank.specs.Says.{Says, TaskEnds};
 ghost use Rattle.norbank.specs.Text.{usage};
 ghost use Rattle.norbank.specs.Words.{asked};
 
@@ -24,8 +24,9 @@ fn answer_named<H: Shelf, K: Sink>(
     shelf: &mut H,
     out: &mut K,
 ) -> Status
-    ensures ends { TaskEnds task (H.files shelf.old) name.now (H.faults shelf.old) (H.faults shelf.new) (took (K.taken out.old) (K.taken out.new) (K.faults out.old) (K.faults out.new)) result.code }
-    ensures same { H.files shelf.new ≡ H.files shelf.old }
+    ensures ends { TaskEnds task name.now (H.state shelf.old) (H.state shelf.new)
+        (K.state out.old) (K.state out.new) result.code }
+    ensures same { (H.state shelf.new).files ≡ (H.state shelf.old).files }
 {
     match shelf.load(alloc, name) {
         Ok(file) => answer_file(alloc, &file, task, out),
@@ -48,12 +49,14 @@ pub fn quiet<H: Shelf, K: Sink>(
     shelf: &mut H,
     out: &mut K,
 ) -> Status
-    ensures ends { EndsAsAsked words.now (shelved (H.files shelf.old) (H.files shelf.new) (H.faults shelf.old) (H.faults shelf.new)) (took (K.taken out.old) (K.taken out.new) (K.faults out.old) (K.faults out.new)) result.code }
+    ensures ends { EndsAsAsked words.now (H.state shelf.old) (H.state shelf.new)
+        (K.state out.old) (K.state out.new) result.code }
     ensures usage { (asked words.now ≡ Command.Unknown) ⊎ (asked words.now ≡ Command.Race)
-        → Says (ends 2 usage) (took (K.taken out.old) (K.taken out.new) (K.faults out.old) (K.faults out.new)) result.code }
+        → Says (ends 2 usage) (K.state out.old) (K.state out.new) result.code }
 
     // Only a script that is run may change files.
-    ensures same { asked words.now ≢ Command.Run → H.files shelf.new ≡ H.files shelf.old }
+    ensures same { asked words.now ≢ Command.Run
+        → (H.state shelf.new).files ≡ (H.state shelf.old).files }
 {
     match command_of(words) {
         Command::OfImage(task) => answer_named(alloc, word(words, 1), task, shelf, out),

@@ -1,18 +1,17 @@
-// A script on the bank of an image.
+//! A script on the bank of an image, run or raced.
 ghost use Rattle.std.specs.Prelude.{◌≡◌, ◌≢◌, ◌≤◌, ℕ, List, Bool, true, false, Option, Err};
 ghost use Rattle.nor_bus.specs.Bus.{BusState};
 ghost use Rattle.nor_bus.specs.Driven.{AllLanes};
-ghost use Rattle.nor_io.specs.Files.{FileMap};
+ghost use Rattle.nor_io.specs.Files.{ShelfState, SinkState};
 ghost use Rattle.nor_probe.specs.declared.error.ProbeError.{ProbeError as ProbeErrorOf};
 ghost use Rattle.nor_probe.specs.declared.error.ProbeError.TheVariants.{Off as LostPower};
 ghost use Rattle.nor_image.specs.Loaded.{bus_of, loaded_width};
 ghost use Rattle.nor_run.specs.Built.{are_built, is_built_bank};
 ghost use Rattle.nor_run.specs.declared.error.RunError.TheVariants.{Probe as ProbeRefuses};
-ghost use Rattle.nor_run.specs.Scripts.{IsLoaded, ShowsQry, EndsRun, ReportsImage};
+ghost use Rattle.nor_run.specs.Scripts.{IsLoaded, HasRoom, ShowsQry, EndsRun, ReportsImage};
 ghost use Rattle.nor_script.specs.Script.{IsScript};
 ghost use Rattle.nor_script.specs.declared.line.Line.{Line as LineOf};
-ghost use Rattle.norbank.specs.Runs.{shelved, status_of, Saved, BuiltRuns, RunEnds};
-ghost use Rattle.norbank.specs.Says.{took};
+ghost use Rattle.norbank.specs.Runs.{status_of, Saved, BuiltRuns, RunEnds};
 
 use crate::answering::say_unfound;
 use crate::jobs::{Job, job_of};
@@ -40,7 +39,8 @@ fn save_bank<H: Shelf, K: Sink>(
     shelf: &mut H,
     out: &mut K,
 ) -> Status
-    ensures saved { Saved name.now file.now ran (shelved (H.files shelf.old) (H.files shelf.new) (H.faults shelf.old) (H.faults shelf.new)) (took (K.taken out.old) (K.taken out.new) (K.faults out.old) (K.faults out.new)) result.code }
+    ensures saved { Saved name.now file.now ran (H.state shelf.old) (H.state shelf.new)
+        (K.state out.old) (K.state out.new) result.code }
 {
     match shelf.save(name, file) {
         Ok(()) => Status { code: code_of(ran) },
@@ -52,11 +52,13 @@ fn save_bank<H: Shelf, K: Sink>(
 // Says why a script wasn't run, or not to its end.
 fn say_unrun<K: Sink>(alloc: Global, error: RunError, out: &mut K) -> Status
     requires probed { (why : ProbeErrorOf) → error ≡ ProbeRefuses why → why ≢ LostPower }
-    ensures runs { (race : Bool) (width : ℕ) (lines : List LineOf) (bus : BusState) (name file : List ℕ) (files : Option FileMap) (f g : ℕ) (before : Option (List ℕ)) (faults : ℕ)
-        → is_built_bank bus.lanes ≡ true
-        → EndsRun race width bus.lanes (took before (K.taken out.old) faults (K.faults out.old)) (Err error)
-        → (AllLanes ShowsQry bus → ReportsImage race width lines bus (took before (K.taken out.old) faults (K.faults out.old)) file (Err error))
-        → BuiltRuns race width lines bus name (shelved files files f g) (took before (K.taken out.new) faults (K.faults out.new)) result.code }
+    ensures runs { (race : Bool) (width : ℕ) (lines : List LineOf) (bus : BusState) (name file : List ℕ)
+        (was now : ShelfState) (before : SinkState)
+        → now.files ≡ was.files → is_built_bank bus.lanes ≡ true
+        → EndsRun race width bus.lanes before (K.state out.old) (Err error)
+        → (AllLanes ShowsQry bus
+        → ReportsImage race width lines bus before (K.state out.old) file (Err error))
+        → BuiltRuns race width lines bus name was now before (K.state out.new) result.code }
 {
     match error {
         RunError::Probe(why) => say_unfound(alloc, why, out),
@@ -76,10 +78,13 @@ fn finish<H: Shelf, K: Sink>(
     out: &mut K,
 ) -> Status
     requires probed { (why : ProbeErrorOf) → ran ≡ Err (ProbeRefuses why) → why ≢ LostPower }
-    ensures runs { (race : Bool) (width : ℕ) (lines : List LineOf) (bus : BusState) (before : Option (List ℕ)) (faults : ℕ) → is_built_bank bus.lanes ≡ true → faults ≤ K.faults out.old
-        → EndsRun race width bus.lanes (took before (K.taken out.old) faults (K.faults out.old)) ran
-        → (AllLanes ShowsQry bus → ReportsImage race width lines bus (took before (K.taken out.old) faults (K.faults out.old)) file.now ran)
-        → BuiltRuns race width lines bus name.now (shelved (H.files shelf.old) (H.files shelf.new) (H.faults shelf.old) (H.faults shelf.new)) (took before (K.taken out.new) faults (K.faults out.new)) result.code }
+    ensures runs { (race : Bool) (width : ℕ) (lines : List LineOf) (bus : BusState) (before : SinkState)
+        → is_built_bank bus.lanes ≡ true → before.faults ≤ (K.state out.old).faults
+        → EndsRun race width bus.lanes before (K.state out.old) ran
+        → (AllLanes ShowsQry bus
+        → ReportsImage race width lines bus before (K.state out.old) file.now ran)
+        → BuiltRuns race width lines bus name.now
+        (H.state shelf.old) (H.state shelf.new) before (K.state out.new) result.code }
 {
     match ran {
         Ok(ran) => save_bank(name, file, ran, shelf, out),
@@ -97,10 +102,12 @@ fn run_job<H: Shelf, K: Sink>(
     shelf: &mut H,
     out: &mut K,
 ) -> Status
-    requires loaded { IsLoaded file.old loaded }
+    requires loaded { IsLoaded loaded }
+    requires room { HasRoom file.old loaded }
     requires built { is_built_bank (bus_of loaded).lanes ≡ true }
     requires lines { are_built script.now ≡ true }
-    ensures runs { BuiltRuns false (loaded_width loaded) script.now (bus_of loaded) name.now (shelved (H.files shelf.old) (H.files shelf.new) (H.faults shelf.old) (H.faults shelf.new)) (took (K.taken out.old) (K.taken out.new) (K.faults out.old) (K.faults out.new)) result.code }
+    ensures runs { BuiltRuns false (loaded_width loaded) script.now (bus_of loaded) name.now
+        (H.state shelf.old) (H.state shelf.new) (K.state out.old) (K.state out.new) result.code }
 {
     let ran = run_image(loaded, file, script.lines(), out);
     finish(alloc, name, file, ran, shelf, out)
@@ -118,11 +125,13 @@ fn race_job<R: Threads + Wait + Sync, H: Shelf, K: Sink, G: Gate + Sync>(
     out: &mut K,
     gate: &G,
 ) -> Status
-    requires loaded { IsLoaded file.old loaded }
+    requires loaded { IsLoaded loaded }
+    requires room { HasRoom file.old loaded }
     requires built { is_built_bank (bus_of loaded).lanes ≡ true }
     requires script { IsScript script.now }
     requires lines { are_built script.now ≡ true }
-    ensures runs { BuiltRuns true (loaded_width loaded) script.now (bus_of loaded) name.now (shelved (H.files shelf.old) (H.files shelf.new) (H.faults shelf.old) (H.faults shelf.new)) (took (K.taken out.old) (K.taken out.new) (K.faults out.old) (K.faults out.new)) result.code }
+    ensures runs { BuiltRuns true (loaded_width loaded) script.now (bus_of loaded) name.now
+        (H.state shelf.old) (H.state shelf.new) (K.state out.old) (K.state out.new) result.code }
 {
     let ran = race_image(rt, alloc, loaded, file, script, gate, out);
     finish(alloc, name, file, ran, shelf, out)
@@ -137,7 +146,8 @@ pub fn run<H: Shelf, K: Sink>(
     shelf: &mut H,
     out: &mut K,
 ) -> Status
-    ensures runs { RunEnds false name.now script.now (shelved (H.files shelf.old) (H.files shelf.new) (H.faults shelf.old) (H.faults shelf.new)) (took (K.taken out.old) (K.taken out.new) (K.faults out.old) (K.faults out.new)) result.code }
+    ensures runs { RunEnds false name.now script.now (H.state shelf.old) (H.state shelf.new)
+        (K.state out.old) (K.state out.new) result.code }
 {
     match job_of(alloc, name, script, false, shelf, out) {
         Ok(job) => {
@@ -164,7 +174,8 @@ pub fn race<R: Threads + Wait + Sync, H: Shelf, K: Sink, G: Gate + Sync>(
     out: &mut K,
     gate: &G,
 ) -> Status
-    ensures runs { RunEnds true name.now script.now (shelved (H.files shelf.old) (H.files shelf.new) (H.faults shelf.old) (H.faults shelf.new)) (took (K.taken out.old) (K.taken out.new) (K.faults out.old) (K.faults out.new)) result.code }
+    ensures runs { RunEnds true name.now script.now (H.state shelf.old) (H.state shelf.new)
+        (K.state out.old) (K.state out.new) result.code }
 {
     match job_of(alloc, name, script, true, shelf, out) {
         Ok(job) => {

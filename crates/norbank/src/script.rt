@@ -1,9 +1,9 @@
 // What is said of a text that is no script.
 ghost use Rattle.std.specs.Prelude.{◌≡◌, ◌≤◌, ◌++◌, codes, decimal};
-ghost use Rattle.nor_script.specs.Puts.{PutsText};
+ghost use Rattle.nor_io.specs.Puts.{PutsText};
 ghost use Rattle.norbank.specs.Endings.{ends};
 ghost use Rattle.norbank.specs.Runs.{kind_text, bad_line, script_ending};
-ghost use Rattle.norbank.specs.Says.{Says, took};
+ghost use Rattle.norbank.specs.Says.{Says};
 ghost use Rattle.norbank.specs.Text.{line_of};
 
 use crate::status::{Status, after_put, put_both, put_line, say};
@@ -25,8 +25,9 @@ fn kind_text(kind: LineKind) -> &'static [u8]
 }
 
 fn put_bad_line<K: Sink>(number: &[u8], kind: &[u8], out: &mut K) -> Result<(), SinkError>
-    ensures puts { PutsText (codes "script: line " ++ number.now ++ line_of (codes ": ") kind.now) (took (K.taken out.old) (K.taken out.new) (K.faults out.old) (K.faults out.new)) result }
-    ensures later { K.faults out.old ≤ K.faults out.new }
+    ensures puts { PutsText (codes "script: line " ++ number.now ++ line_of (codes ": ") kind.now)
+        (K.state out.old) (K.state out.new) result }
+    ensures later { (K.state out.old).faults ≤ (K.state out.new).faults }
 {
     match put_both(b"script: line ", number, out) {
         Ok(()) => put_line(b": ", kind, out),
@@ -36,8 +37,9 @@ fn put_bad_line<K: Sink>(number: &[u8], kind: &[u8], out: &mut K) -> Result<(), 
 
 // Says what is wrong with a line.
 fn say_bad_line<K: Sink>(line: u32, kind: &[u8], out: &mut K) -> Status
-    ensures says { Says (ends 4 (bad_line line kind.now)) (took (K.taken out.old) (K.taken out.new) (K.faults out.old) (K.faults out.new)) result.code }
-    ensures later { K.faults out.old ≤ K.faults out.new }
+    ensures says { Says (ends 4 (bad_line line kind.now))
+        (K.state out.old) (K.state out.new) result.code }
+    ensures later { (K.state out.old).faults ≤ (K.state out.new).faults }
 {
     let mut number = Buffer::new();
     let put = put_bad_line(number.format(line).as_bytes(), kind, out);
@@ -46,8 +48,8 @@ fn say_bad_line<K: Sink>(line: u32, kind: &[u8], out: &mut K) -> Status
 
 /// Says why a text is no script.
 pub fn say_no_script<K: Sink>(error: ScriptError, out: &mut K) -> Status
-    ensures says { Says (script_ending error) (took (K.taken out.old) (K.taken out.new) (K.faults out.old) (K.faults out.new)) result.code }
-    ensures later { K.faults out.old ≤ K.faults out.new }
+    ensures says { Says (script_ending error) (K.state out.old) (K.state out.new) result.code }
+    ensures later { (K.state out.old).faults ≤ (K.state out.new).faults }
 {
     match error {
         ScriptError::BadLine { line, kind } => say_bad_line(line, kind_text(kind), out),

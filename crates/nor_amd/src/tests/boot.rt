@@ -73,6 +73,7 @@ fn make_boot_chip(alloc: Global) -> Result<Amd, AllocError> {
             suspends: 0,
             erases: 0,
             blocks: blocks(alloc)?,
+            locks: Vec::new(alloc),
         },
     )?;
     Ok(Amd::new(cells))

@@ -1,5 +1,5 @@
 //! Each command, with its cycles right and with one of them wrong.
-use super::Cycle::{Counted, Erase, PowerOn, Program, Read, Unlocked, Write};
+use super::Cycle::{Counted, Cut, Erase, PowerOn, Program, Read, Unlocked, Write};
 use super::{LOAD, PLAIN, PROTECTION, Setup, check, make_chip, run};
 use nor_cell::Device;
 use std::test::Fail;
@@ -181,7 +181,9 @@ fn locks_are_shown_and_set_in_their_mode(rt: HostRuntime) -> Result<(), Fail> {
 }
 
 #[test]
-fn a_locked_block_is_left_alone_until_power_is_lost(rt: HostRuntime) -> Result<(), Fail> {
+fn a_locked_block_is_left_alone_and_stays_locked_over_power_on(
+    rt: HostRuntime,
+) -> Result<(), Fail> {
     check(
         &rt,
         rt.alloc(),
@@ -202,9 +204,35 @@ fn a_locked_block_is_left_alone_until_power_is_lost(rt: HostRuntime) -> Result<(
             Erase(0x200),
             Read(0x200, 0xFFFF),
             Counted(0, 0),
+            Cut(0x00),
             PowerOn,
             Unlocked(0x555, 0xE0),
-            Read(0x200, 1),
+            Read(0x1FF, 1),
+            Read(0x200, 0),
+            Read(0x400, 1),
+        ],
+    )?;
+    // a chip is made with its locks
+    check(
+        &rt,
+        rt.alloc(),
+        Setup {
+            locked: true,
+            ..PLAIN
+        },
+        &[
+            Program(0, 0x0000),
+            Read(0, 0xFFFF),
+            Unlocked(0x555, 0xE0),
+            Read(0, 0),
+            Read(0xFFF, 0),
+            Write(0, 0xA0),
+            Write(0xE00, 0x01),
+            PowerOn,
+            Unlocked(0x555, 0xE0),
+            Read(0, 0),
+            Read(0xDFF, 0),
+            Read(0xE00, 1),
         ],
     )?;
     // a table without locks

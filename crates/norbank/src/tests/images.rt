@@ -159,25 +159,43 @@ fn push_cells(file: &mut Vec<u8>, size: u32, cells: Cells) -> Result<(), AllocEr
     Ok(())
 }
 
-// Paces 2, 4 and 2, and no weak places.
-fn push_lane(file: &mut Vec<u8>, image: &Image, cells: Cells) -> Result<(), AllocError> {
+// Paces 2, 4 and 2, and no weak places. Version 2 says that no locks are stored.
+fn push_lane(
+    file: &mut Vec<u8>,
+    image: &Image,
+    cells: Cells,
+    version: u8,
+) -> Result<(), AllocError> {
     file.extend_from_slice(&[2, 0, 0, 0, 4, 0, 0, 0, 2, 0, 0, 0, 0, 0, 0, 0, 0, 0, 0, 0])?;
     push_zeros(file, 0x10)?;
     file.extend_from_slice(&image.table)?;
     push_zeros(file, 512 - 0x10 - 57)?;
     file.extend_from_slice(&image.size.to_le_bytes())?;
+    if version == b'2' {
+        push_zeros(file, 4)?;
+    }
     push_cells(file, image.size, cells)
 }
 
-pub fn file_of(alloc: Global, image: Image) -> Result<Vec<u8>, AllocError> {
+fn file_in(alloc: Global, image: Image, version: u8) -> Result<Vec<u8>, AllocError> {
     let mut file = Vec::new(alloc);
-    file.extend_from_slice(b"NORBANK1")?;
-    file.extend_from_slice(&[image.width, image.device, image.lanes, 0])?;
+    file.extend_from_slice(b"NORBANK")?;
+    file.extend_from_slice(&[version, image.width, image.device, image.lanes, 0])?;
     for lane in 0..image.lanes {
         let cells = if lane == 1 { image.lane_1 } else { image.cells };
-        push_lane(&mut file, &image, cells)?;
+        push_lane(&mut file, &image, cells, version)?;
     }
     Ok(file)
+}
+
+/// The file of version 1.
+pub fn file_of(alloc: Global, image: Image) -> Result<Vec<u8>, AllocError> {
+    file_in(alloc, image, b'1')
+}
+
+/// The file of version 2 of a bank that keeps no locks.
+pub fn saved_file_of(alloc: Global, image: Image) -> Result<Vec<u8>, AllocError> {
+    file_in(alloc, image, b'2')
 }
 
 /// The first `len` bytes of a file, or all that it has.

@@ -1,13 +1,17 @@
 //! Races on banks in memory.
-use super::images::{changed, file_of, four_plain_amd, one_plain, one_x16, two_plain_x8};
+use super::images::{
+    changed, file_of, four_plain_amd, one_plain, one_x16, saved_file_of, two_plain_x8,
+};
 use super::words_of;
 use crate::program::norbank;
 use crate::quiet::quiet;
 use nor_io::{MemShelf, MemSink, Shelf};
-use nor_race::OpenGate;
+use nor_race::{Gate, OpenGate, Stage};
 use std::alloc::Global;
 use std::sync::Wait;
+use std::sync::atomic::{AtomicU64, Ordering};
 use std::test::Fail;
+use std::thread;
 use std::thread::Threads;
 
 // What a command ends with: its status, what it printed, and the bank afterwards.
@@ -19,6 +23,29 @@ struct Ended {
 }
 
 // `race bank script` over these files, or `run`, and calls of the sink that fail by their numbers.
+fn ends_past<R: Threads + Wait + Sync, G: Gate + Sync>(
+    rt: &R,
+    alloc: Global,
+    verb: &str,
+    bank: &[u8],
+    script: &[u8],
+    fail_sink: &[u32],
+    gate: &G,
+) -> Result<Ended, Fail> {
+    let mut shelf = MemShelf::new(alloc, &[])?;
+    shelf.hold("bank", bank)?;
+    shelf.hold("script", script)?;
+    let mut out = MemSink::new(alloc, fail_sink)?;
+    let words = words_of(alloc, &[verb, "bank", "script"])?;
+    let status = norbank(rt, alloc, &words, &mut shelf, &mut out, gate);
+    Ok(Ended {
+        code: status.code,
+        printed: out.taken().to_vec(alloc)?,
+        bank: shelf.load(alloc, "bank").unwrap_or(Vec::new(alloc)),
+    })
+}
+
+// The same with a gate that is open.
 fn ends<R: Threads + Wait + Sync>(
     rt: &R,
     alloc: Global,
@@ -27,17 +54,7 @@ fn ends<R: Threads + Wait + Sync>(
     script: &[u8],
     fail_sink: &[u32],
 ) -> Result<Ended, Fail> {
-    let mut shelf = MemShelf::new(alloc, &[])?;
-    shelf.hold("bank", bank)?;
-    shelf.hold("script", script)?;
-    let mut out = MemSink::new(alloc, fail_sink)?;
-    let words = words_of(alloc, &[verb, "bank", "script"])?;
-    let status = norbank(rt, alloc, &words, &mut shelf, &mut out, &OpenGate);
-    Ok(Ended {
-        code: status.code,
-        printed: out.taken().to_vec(alloc)?,
-        bank: shelf.load(alloc, "bank").unwrap_or(Vec::new(alloc)),
-    })
+    ends_past(rt, alloc, verb, bank, script, fail_sink, &OpenGate)
 }
 
 const ONE_CALLER: &[u8] =
@@ -79,7 +96,7 @@ fn lines_of(alloc: Global, report: &[u8], caller: u8) -> Result<Vec<u8>, Fail> {
 }
 
 // The cells of a bank's first lane begin at this place of its file.
-const CELLS: usize = 548;
+const CELLS: usize = 552;
 
 #[test]
 fn callers_race_each_in_its_own_order(rt: HostRuntime) -> Result<(), Fail> {
@@ -107,7 +124,7 @@ fn callers_race_each_in_its_own_order(rt: HostRuntime) -> Result<(), Fail> {
             .ends_with(b"lane 0 suspends 0 erases 0\nhistory 5\n")
     );
     let saved = changed(
-        changed(file_of(alloc, one_plain())?, CELLS + 3, 0),
+        changed(saved_file_of(alloc, one_plain())?, CELLS + 3, 0),
         CELLS + 4,
         0,
     );
@@ -173,5 +190,59 @@ fn words_of_a_race_are_no_form_of_a_quiet_command(rt: HostRuntime) -> Result<(),
     let status = norbank(&rt, alloc, &words, &mut shelf, &mut out, &OpenGate);
     assert_eq!(rt; status.code, 8);
     assert_eq!(rt; out.taken(), b"absent bank\n".as_slice());
+    Ok(())
+}
+
+// Holds caller 2 before its first line, which is the third, until caller 1 is past its first; and
+// caller 1 there, until caller 2 is past its last line.
+#[derive(Drop)]
+struct Meeting {
+    first_is_past: AtomicU64,
+    last_is_past: AtomicU64,
+    misses: AtomicU64,
+}
+
+// Waits for a flag, and notes where it isn't raised.
+fn hold(flag: &AtomicU64, misses: &AtomicU64) {
+    for _ in 0..1_000_000_000 {
+        if flag.load(Ordering::SeqCst) == 1 {
+            return;
+        }
+        thread::yield_now();
+    }
+    misses.fetch_add(1, Ordering::SeqCst);
+}
+
+impl Gate for Meeting {
+    fn at(&self, caller: u8, line: u32, stage: Stage) {
+        match (caller, line, stage) {
+            (1, 1, Stage::After) => {
+                self.first_is_past.store(1, Ordering::SeqCst);
+                hold(&self.last_is_past, &self.misses);
+            }
+            (2, 3, Stage::Before) => hold(&self.first_is_past, &self.misses),
+            (2, 4, Stage::After) => self.last_is_past.store(1, Ordering::SeqCst),
+            _ => {}
+        }
+    }
+}
+
+#[test]
+fn callers_of_the_program_run_beside_each_other(rt: HostRuntime) -> Result<(), Fail> {
+    let alloc = rt.alloc();
+    let bank = file_of(alloc, one_plain())?;
+    let gate = Meeting {
+        first_is_past: AtomicU64::new(0),
+        last_is_past: AtomicU64::new(0),
+        misses: AtomicU64::new(0),
+    };
+    let script = b"1 program 0xff fe\n1 read 0xff 1\n2 read 0xff 1\n2 program 0xff fd\n";
+    let raced = ends_past(&rt, alloc, "race", &bank, script, &[], &gate)?;
+    assert_eq!(rt; raced.code, 0);
+    assert_eq!(rt; gate.misses.load(Ordering::SeqCst), 0);
+    assert_eq!(rt;
+        raced.printed.as_slice(),
+        b"0 1 program 0xff fe -> done\n1 2 read 0xff 1 -> fe\n2 2 program 0xff fd -> done\n3 1 read 0xff 1 -> fc\nlane 0 suspends 0 erases 0\nhistory 4\n".as_slice()
+    );
     Ok(())
 }

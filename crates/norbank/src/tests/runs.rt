@@ -1,7 +1,7 @@
 //! Scripts on banks in memory: replies, refusals, and what is saved.
 use super::images::{
     changed, file_of, first_part, four_plain_amd, one_plain, one_plain_amd_in_byte_mode, one_x16,
-    two_plain_x8,
+    saved_file_of, two_plain_x8,
 };
 use super::words_of;
 use crate::quiet::quiet;
@@ -76,14 +76,14 @@ fn refuses(
 }
 
 // The cells of a bank's first lane begin at this place of its file.
-const CELLS: usize = 548;
+const CELLS: usize = 552;
 
 #[test]
 fn scripts_on_one_chip_are_answered(rt: HostRuntime) -> Result<(), Fail> {
     let alloc = rt.alloc();
     let bank = file_of(alloc, one_plain())?;
     let zeros = changed(
-        changed(file_of(alloc, one_plain())?, CELLS + 3, 0),
+        changed(saved_file_of(alloc, one_plain())?, CELLS + 3, 0),
         CELLS + 4,
         0,
     );
@@ -95,7 +95,7 @@ fn scripts_on_one_chip_are_answered(rt: HostRuntime) -> Result<(), Fail> {
         b"0 1 program 0x3 0000 -> done\n1 1 read 0x2 4 -> 02000005\n2 1 program 0x10 - -> done\n3 1 read 0x1fff 2 -> out-of-range\n4 1 read 0x2000 0 -> -\nlane 0 suspends 0 erases 0\nhistory 5\n",
         &zeros,
     )?;
-    let zero = changed(file_of(alloc, one_plain())?, CELLS + 1, 0);
+    let zero = changed(saved_file_of(alloc, one_plain())?, CELLS + 1, 0);
     reports(
         &rt,
         alloc,
@@ -104,14 +104,18 @@ fn scripts_on_one_chip_are_answered(rt: HostRuntime) -> Result<(), Fail> {
         b"0 1 program 0x1 f0 -> done\n1 1 read 0x0 2 -> 0000\nlane 0 suspends 0 erases 0\nhistory 2\n",
         &zero,
     )?;
-    reports(
-        &rt,
-        alloc,
-        &bank,
-        b"",
-        b"lane 0 suspends 0 erases 0\nhistory 0\n",
-        &bank,
-    )?;
+    // a bank is saved as version 2, whatever it was loaded from
+    let saved = saved_file_of(alloc, one_plain())?;
+    for version in [&bank, &saved] {
+        reports(
+            &rt,
+            alloc,
+            version,
+            b"",
+            b"lane 0 suspends 0 erases 0\nhistory 0\n",
+            &saved,
+        )?;
+    }
     Ok(())
 }
 
@@ -120,7 +124,7 @@ fn scripts_on_two_lanes_are_answered(rt: HostRuntime) -> Result<(), Fail> {
     let alloc = rt.alloc();
     let bank = file_of(alloc, two_plain_x8())?;
     // Byte 1 of the bank is byte 0 of lane 1.
-    let saved = changed(file_of(alloc, two_plain_x8())?, CELLS + 8728, 0x0F);
+    let saved = changed(saved_file_of(alloc, two_plain_x8())?, CELLS + 8732, 0x0F);
     reports(
         &rt,
         alloc,
@@ -137,8 +141,8 @@ fn scripts_on_chips_of_set_0002_are_answered(rt: HostRuntime) -> Result<(), Fail
     let four = file_of(alloc, four_plain_amd())?;
     // Byte 5 of the bank is byte 1 of lane 2.
     let saved = changed(
-        file_of(alloc, four_plain_amd())?,
-        12 + 2 * 8728 + 536 + 1,
+        saved_file_of(alloc, four_plain_amd())?,
+        12 + 2 * 8732 + 540 + 1,
         0x0F,
     );
     reports(
@@ -150,7 +154,7 @@ fn scripts_on_chips_of_set_0002_are_answered(rt: HostRuntime) -> Result<(), Fail
         &saved,
     )?;
     let script = b"1 program 0x0 f0\n1 program 0x0 0f\n1 read 0x0 1\n";
-    let zero = changed(file_of(alloc, four_plain_amd())?, CELLS, 0);
+    let zero = changed(saved_file_of(alloc, four_plain_amd())?, CELLS, 0);
     reports(
         &rt,
         alloc,
@@ -160,7 +164,11 @@ fn scripts_on_chips_of_set_0002_are_answered(rt: HostRuntime) -> Result<(), Fail
         &zero,
     )?;
     let one = file_of(alloc, one_plain_amd_in_byte_mode())?;
-    let zero = changed(file_of(alloc, one_plain_amd_in_byte_mode())?, CELLS, 0);
+    let zero = changed(
+        saved_file_of(alloc, one_plain_amd_in_byte_mode())?,
+        CELLS,
+        0,
+    );
     reports(
         &rt,
         alloc,
@@ -221,7 +229,7 @@ fn what_is_not_built_is_told(rt: HostRuntime) -> Result<(), Fail> {
         b"script: line 1: word\n",
     )?;
     // The flag of a stuck lane stands at place 21 of the file.
-    let stuck = changed(file_of(alloc, one_plain())?, 21, 1);
+    let stuck = changed(saved_file_of(alloc, one_plain())?, 21, 1);
     refuses(&rt, alloc, &stuck, b"", 11, b"not built\n")?;
     Ok(())
 }
@@ -239,7 +247,7 @@ fn the_first_failure_ends_a_run(rt: HostRuntime) -> Result<(), Fail> {
         3,
         b"image: bad magic\n",
     )?;
-    let mute = changed(file_of(alloc, one_plain())?, 32 + 0x10, 0);
+    let mute = changed(saved_file_of(alloc, one_plain())?, 32 + 0x10, 0);
     refuses(&rt, alloc, &mute, b"", 5, b"probe: no answer\n")?;
     refuses(
         &rt,

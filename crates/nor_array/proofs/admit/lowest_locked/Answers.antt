@@ -6,5 +6,5 @@ use Rattle.nor_array.proofs.admit.lowest_locked.Goals as goal
 
 pub loop-block-preserved : goal.loop-block-preserved
 loop-block-preserved c =
-    let test : ℕ → Bool = λ b. touches c.args.array.now c.args.op.now b && is_locked c.args.array.now b in
+    let test : ℕ → Bool = λ b. touches c.args.array.now c.args.reach b && is_locked c.args.array.now b in
     c.loop-block.invariant ∙ lowest_over test c.loop-block.block (length c.args.array.now.consts.blocks - c.loop-block.block) (length c.args.array.now.consts.blocks - (c.loop-block.block + 1)) (omega arith) (sym c.touches_locked.ensures ∙ c.if-touches_locked.false)

@@ -1,5 +1,6 @@
 use Rattle.std.proofs.Common.{◌≡◌, ◌+◌, ◌-◌}
-use Rattle.nor_array.specs.Admits.{lowest, would_change}
+use Rattle.nor_array.specs.Array.{lowest}
+use Rattle.nor_array.specs.Admits.{would_change}
 use Rattle.nor_array.proofs.program.span_changes.Given as goal
 
 -- none below has passed

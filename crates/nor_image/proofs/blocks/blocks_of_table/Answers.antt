@@ -1,4 +1,4 @@
-use Rattle.std.proofs.Common.{◌≡◌, ◌≤◌, ◌+◌, ◌^◌, ℕ, List, IsTrue, true, sym, ap, subst, arith, rules}
+use Rattle.std.proofs.Common.{◌≡◌, ◌≤◌, ◌+◌, ◌^◌, ℕ, List, length, IsTrue, true, sym, ap, subst, ◌∙◌, arith, rules}
 use Rattle.nor_cell.specs.Ranges.{are_blocks, follow_to}
 use Rattle.nor_cell.specs.Table.{field_8}
 use Rattle.nor_cell.specs.declared.device.Span.{Span}
@@ -26,3 +26,11 @@ returns-in-Ok-clause-follow c =
     let follows : (spans : List Span) → spans ≡ spans_of c.block_map.result → IsTrue (are_blocks c.args.size spans) =
     λ spans is. subst (λ (xs : List Span). are_blocks c.args.size xs ≡ true) (sym is) fits in
     search (rules, follows)
+
+pub returns-in-Ok-clause-few : goal.returns-in-Ok-clause-few
+returns-in-Ok-clause-few c =
+    let whole : total_len c.block_map.result ≡ c.args.size =
+    c.block_map.ensures.size ∙ (ap (λ k. 2 ^ k) c.in-Ok.ensures.stands.size_log
+    ∙ sym (size_of_table c.args.table.now c.args.size c.requires (let a = c.in-Ok.ensures.valid.size_log.0 in let b = c.in-Ok.ensures.stands.size_log in omega arith) (let a = c.in-Ok.ensures.valid.size_log.1 in let b = c.in-Ok.ensures.stands.size_log in omega arith))) in
+    let few : (spans : List Span) → length spans ≤ total_len c.block_map.result → length spans ≤ c.args.size = λ spans h. omega arith in
+    search (rules, few)

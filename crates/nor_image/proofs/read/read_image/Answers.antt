@@ -4,6 +4,7 @@ use Rattle.nor_image.specs.Image.{IsCause, machine_of, lanes_of_file, device_of,
 use Rattle.nor_image.specs.Loaded.{bus_of, loaded_width}
 use Rattle.nor_image.proofs.Images.{some_lanes, lane_0, chips_of_file, is_bank, is_image, are_storable, refusal_is}
 use Rattle.nor_image.proofs.Lanes.{header_stops}
+use Rattle.nor_image.proofs.LaneLocks.{image_agrees}
 use Rattle.nor_image.proofs.Unique.{image_spelled}
 use Rattle.nor_image.proofs.read.read_image.Goals as goal
 
@@ -42,6 +43,13 @@ returns-clause-storable c =
     let chips = chips_of_file c.args.file.now c.in_ok-lanes.lanes.items c.index.result.now c.set_of-set.result (bus_of c.in_ok-loaded.loaded).lanes
     c.in_ok-lanes.ensures.1 some c.index.ensures c.set_of-set.ensures c.in_ok-loaded.ensures.lanes in
     are_storable c.args.file.now (bus_of c.in_ok-loaded.loaded).lanes chips some
+
+pub returns-clause-agree : goal.returns-clause-agree
+returns-clause-agree c =
+    let some = some_lanes (width_of c.args.file.now) (lanes_of_file c.args.file.now) (device_of c.args.file.now) c.in_ok-header.ensures.1.wired in
+    let chips = chips_of_file c.args.file.now c.in_ok-lanes.lanes.items c.index.result.now c.set_of-set.result (bus_of c.in_ok-loaded.loaded).lanes
+    c.in_ok-lanes.ensures.1 some c.index.ensures c.set_of-set.ensures c.in_ok-loaded.ensures.lanes in
+    image_agrees c.args.file.now (bus_of c.in_ok-loaded.loaded).lanes chips c.in_ok-lanes.ensures.0
 
 pub returns-clause-file : goal.returns-clause-file
 returns-clause-file c =

@@ -1,9 +1,7 @@
-use Rattle.std.proofs.Common.{arith, ◌<◌, ◌%◌, ℕ, subst, sym}
-use Rattle.std.proofs.Math.Nat.{mod-lt}
-use Rattle.nor_bus.specs.Bus.{lane, units_of}
-use Rattle.nor_bus.proofs.Driving.{device_of}
-use Rattle.nor_bus.proofs.Sizes.{bus_units}
+use Rattle.std.proofs.Common.{◌<◌, ℕ, subst}
+use Rattle.nor_bus.specs.Bus.{lane}
 use Rattle.nor_bus.specs.Driven.{EachLane}
+use Rattle.nor_bus.proofs.Driving.{device_of}
 use Rattle.nor_poll.specs.Reads.{DarkensReading}
 use Rattle.nor_poll.proofs.Looking.{looked_by}
 use Rattle.nor_poll.proofs.Reading.{darkens, dark_now, read_one, on_err}
@@ -13,11 +11,9 @@ use Rattle.nor_poll.proofs.status.status_poll.Goals as goal
 pub returns-clause-told : goal.returns-clause-told
 returns-clause-told g c = λ own k below.
     let old = g.B.Bus.state c.args.bus.now in
-    let size = bus_units g.W.BusWord.WIDTH old c.units.ensures.wired in
-    let within = subst (λ (n : ℕ). c.args.at % n < units_of old) (sym c.units.ensures.count) (mod-lt c.args.at (omega arith)) in
     let mine = subst (λ (n : ℕ). k < n) own.count below in
     told_by c.args.g.device (lane old k) (lane (g.B.Bus.state c.read_word.new.bus) k) _ _ k (g.W.BusWord.bytes c.in_ok-word.word)
-    (device_of g.W.BusWord.WIDTH c.args.g.device old k own.bank below) (c.in_ok-word.ensures.lanes within k below) (c.watch_of.ensures.told k mine)
+    (device_of g.W.BusWord.WIDTH c.args.g.device old k own.bank below) (c.in_ok-word.ensures.lanes k below) (c.watch_of.ensures.told k mine)
 
 pub returns-in_err-word-clause-dark : goal.returns-in_err-word-clause-dark
 returns-in_err-word-clause-dark g c =
@@ -29,6 +25,4 @@ pub returns-clause-read : goal.returns-clause-read
 returns-clause-read g c =
     let old = g.B.Bus.state c.args.bus.now in
     let new = g.B.Bus.state c.read_word.new.bus in
-    let size = bus_units g.W.BusWord.WIDTH old c.units.ensures.wired in
-    let within = subst (λ (n : ℕ). c.args.at % n < units_of old) (sym c.units.ensures.count) (mod-lt c.args.at (omega arith)) in
-    read_one old new c.in_ok-word.ensures.went (λ k below. looked_by (lane old k) _ _ (lane new k) (c.in_ok-word.ensures.lanes within k below))
+    read_one old new c.in_ok-word.ensures.went (λ k below. looked_by (lane old k) _ _ (lane new k) (c.in_ok-word.ensures.lanes k below))

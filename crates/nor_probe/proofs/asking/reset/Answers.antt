@@ -1,5 +1,5 @@
 use Rattle.std.proofs.Common.{arith}
-use Rattle.nor_bus.proofs.Driving.{went_then}
+use Rattle.nor_bus.proofs.Driving.{went_then, code_reached}
 use Rattle.nor_bus.proofs.Sizes.{bus_units}
 use Rattle.nor_bus.specs.Bus.{lane}
 use Rattle.nor_probe.proofs.Asked.{both_resets}
@@ -13,7 +13,8 @@ returns-clause-lanes g c = λ k below.
     let size = bus_units g.W.BusWord.WIDTH old c.write_code.ensures.wired in
     let units = c.write_code.ensures.units in
     let count = c.in_ok-write_code.ensures.went.kept.count in
-    both_resets (lane old k) (lane mid k) (lane new k) (c.in_ok-write_code.ensures.lanes (omega arith) k below) (c.in_ok-write_code-2.ensures.lanes (omega arith) k (omega arith))
+    both_resets (lane old k) (lane mid k) (lane new k) (code_reached 0 0xF0 old mid (omega arith) c.in_ok-write_code.ensures.lanes k below)
+    (code_reached 0 0xFF mid new (omega arith) c.in_ok-write_code-2.ensures.lanes k (omega arith))
 
 pub returns-clause-went : goal.returns-clause-went
 returns-clause-went g c =

@@ -4,7 +4,8 @@ use Rattle.nor_bus.specs.Driven.{Lost}
 use Rattle.nor_probe.specs.Tables.{table_read}
 use Rattle.nor_probe.specs.declared.error.ProbeError.{ProbeError}
 use Rattle.nor_probe.proofs.Asked.{on_err}
-use Rattle.nor_probe.proofs.Looking.{answers_of, counted_then, counted_lost, read_rests, common_table, lanes_refused}
+use Rattle.nor_bus.proofs.Counting.{counted_then, counted_lost}
+use Rattle.nor_probe.proofs.Looking.{answers_of, read_rests, common_table, lanes_refused}
 use Rattle.nor_probe.proofs.probing.look.Goals as goal
 
 pub returns-in_err-table-clause-lost : goal.returns-in_err-table-clause-lost
@@ -12,15 +13,15 @@ returns-in_err-table-clause-lost g c =
     let old = g.B.Bus.state c.args.bus.now in
     let now = g.B.Bus.state c.answering.new.bus in
     let new = g.B.Bus.state c.read_table.new.bus in
-    on_err c.from_residual-in_err-table.result (Lost 522 old new) (counted_lost 21 501 522 old now new (omega arith) c.in_ok-geometry.ensures.counted c.in_err-table.ensures.lost)
+    on_err c.from_residual-in_err-table.result (Lost 522 old new) (counted_lost 0 21 501 522 old now new (omega arith) c.in_ok-geometry.ensures.counted c.in_err-table.ensures.lost)
 
 pub returns-in-Ok-clause-counted : goal.returns-in-Ok-clause-counted
 returns-in-Ok-clause-counted g c =
-    counted_then 21 501 522 (g.B.Bus.state c.args.bus.now) (g.B.Bus.state c.answering.new.bus) (g.B.Bus.state c.read_table.new.bus) (omega arith) c.in_ok-geometry.ensures.counted c.in_ok-table.ensures.counted
+    counted_then 0 21 0 501 0 522 (g.B.Bus.state c.args.bus.now) (g.B.Bus.state c.answering.new.bus) (g.B.Bus.state c.read_table.new.bus) (omega arith) (omega arith) c.in_ok-geometry.ensures.counted c.in_ok-table.ensures.counted
 
 pub returns-in-Err-clause-counted : goal.returns-in-Err-clause-counted
 returns-in-Err-clause-counted g c =
-    counted_then 21 501 522 (g.B.Bus.state c.args.bus.now) (g.B.Bus.state c.answering.new.bus) (g.B.Bus.state c.read_table.new.bus) (omega arith) c.in_ok-geometry.ensures.counted c.in_ok-table.ensures.counted
+    counted_then 0 21 0 501 0 522 (g.B.Bus.state c.args.bus.now) (g.B.Bus.state c.answering.new.bus) (g.B.Bus.state c.read_table.new.bus) (omega arith) (omega arith) c.in_ok-geometry.ensures.counted c.in_ok-table.ensures.counted
 
 pub returns-in-Ok-clause-lanes : goal.returns-in-Ok-clause-lanes
 returns-in-Ok-clause-lanes g c =

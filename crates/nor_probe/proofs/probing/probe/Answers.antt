@@ -1,6 +1,6 @@
 use Rattle.std.proofs.Common.{◌≡◌, ◌∙◌, sym, arith, Some}
 use Rattle.nor_probe.specs.Probed.{refusal, IsCommonTable, IsFoundBy}
-use Rattle.nor_probe.proofs.Looking.{counted_lost}
+use Rattle.nor_bus.proofs.Counting.{counted_lost}
 use Rattle.nor_probe.proofs.OwnTables.{shows_itself, own_found, accepts}
 use Rattle.nor_probe.proofs.Judged.{if_ok, if_err, then_ok, ok_of, clash, counted_more, reset_last, refusal_common, found_on}
 use Rattle.nor_probe.proofs.probing.probe.Goals as goal
@@ -15,7 +15,7 @@ returns-in_err-reset-clause-shown g c = λ own. shows_itself g.W.BusWord.WIDTH o
 
 pub returns-in_err-reset-clause-lost : goal.returns-in_err-reset-clause-lost
 returns-in_err-reset-clause-lost g c = λ off.
-    counted_lost 522 2 524 (g.B.Bus.state c.args.bus.now) (g.B.Bus.state c.look.new.bus) (g.B.Bus.state c.reset.new.bus) (omega arith) c.in_ok-seen.ensures.counted c.in_err-reset.ensures.lost
+    counted_lost 0 522 2 524 (g.B.Bus.state c.args.bus.now) (g.B.Bus.state c.look.new.bus) (g.B.Bus.state c.reset.new.bus) (omega arith) c.in_ok-seen.ensures.counted c.in_err-reset.ensures.lost
 
 -- ---- no wiring, or lanes that differ
 

@@ -5,7 +5,7 @@ use Rattle.nor_race.proofs.report.put_notes.Given as goal
 
 abbrev pub invariant-loop-k : goal.invariant-loop-k
 invariant-loop-k g l = record {
-  put : (es : List Entry) → AreTold l.lines l.notes es → PutsAll (take l.k es) (g.K.Sink.taken l.fn.out) (g.K.Sink.taken l.out) l.ran;
+  put : (es : List Entry) → AreTold l.lines l.notes es → PutsAll (take l.k es) (g.K.Sink.state l.fn.out) (g.K.Sink.state l.out) l.ran;
   few : l.ran.entries ≡ l.k;
-  later : g.K.Sink.faults l.fn.out ≤ g.K.Sink.faults l.out;
+  later : (g.K.Sink.state l.fn.out).faults ≤ (g.K.Sink.state l.out).faults;
 }

@@ -4,5 +4,5 @@ use Rattle.nor_race.proofs.report.race_and_put.Goals as goal
 pub returns-in-Ok-clause-runs : goal.returns-in-Ok-clause-runs
 returns-in-Ok-clause-runs g c = λ a can.
     raced_runs c.args.script.now c.lines.result.now c.args.bank c.in-Ok.raced.bank c.in-Ok.raced.notes a
-    (record { before = g.K.Sink.taken c.args.out.now; after = g.K.Sink.taken c.put_notes-ran.new.out; faults_before = g.K.Sink.faults c.args.out.now; faults_after = g.K.Sink.faults c.put_notes-ran.new.out })
+    (g.K.Sink.state c.args.out.now) (g.K.Sink.state c.put_notes-ran.new.out)
     c.put_notes-ran.result c.of_put.result c.lines.ensures c.in-Ok.ensures.raced can c.of_put.ensures c.put_notes-ran.ensures.whole c.put_notes-ran.ensures.part

@@ -1,5 +1,4 @@
 use Rattle.std.proofs.Common.{true, sym}
-use Rattle.nor_script.specs.Puts.{Taken}
 use Rattle.nor_run.proofs.Reporting.{reports, ends_run, keeps_lanes}
 use Rattle.nor_race.proofs.Printing.{script_races}
 use Rattle.nor_race.proofs.report.race_bank.Goals as goal
@@ -9,21 +8,19 @@ race_and_put-bank-requires-clause-lines g c = λ κs lives. script_races c.args.
 
 pub returns-in-Ok-clause-ends : goal.returns-in-Ok-clause-ends
 returns-in-Ok-clause-ends g c =
-    let before = g.K.Sink.taken c.args.out.now in
-    let faults = g.K.Sink.faults c.args.out.now in
-    let last : Taken = record { before = before; after = g.K.Sink.taken c.put_end-ran.new.out; faults_before = faults; faults_after = g.K.Sink.faults c.put_end-ran.new.out } in
-    ends_run true g.W.BusWord.WIDTH c.args.bank c.in-Ok.bank last c.put_end-ran.result c.in-Ok.ensures.started
-    (c.put_end-ran.ensures.ends true before faults c.race_and_put-bank.ensures.later c.race_and_put-bank.ensures.ends)
+    let before = g.K.Sink.state c.args.out.now in
+    let last = g.K.Sink.state c.put_end-ran.new.out in
+    ends_run true g.W.BusWord.WIDTH c.args.bank c.in-Ok.bank before last c.put_end-ran.result c.in-Ok.ensures.started
+    (c.put_end-ran.ensures.ends true before c.race_and_put-bank.ensures.later c.race_and_put-bank.ensures.ends)
 
 pub returns-in-Ok-clause-reports : goal.returns-in-Ok-clause-reports
 returns-in-Ok-clause-reports g c =
-    let before = g.K.Sink.taken c.args.out.now in
-    let faults = g.K.Sink.faults c.args.out.now in
+    let before = g.K.Sink.state c.args.out.now in
     let lines = c.args.script.now in
-    let last : Taken = record { before = before; after = g.K.Sink.taken c.put_end-ran.new.out; faults_before = faults; faults_after = g.K.Sink.faults c.put_end-ran.new.out } in
-    reports true g.W.BusWord.WIDTH c.args.bank lines c.in-Ok.bank c.race_and_put-bank.result.0 c.stop.result last c.put_end-ran.result c.in-Ok.ensures.started c.stop.ensures c.race_and_put-bank.ensures.keeps
+    let last = g.K.Sink.state c.put_end-ran.new.out in
+    reports true g.W.BusWord.WIDTH c.args.bank lines c.in-Ok.bank c.race_and_put-bank.result.0 c.stop.result before last c.put_end-ran.result c.in-Ok.ensures.started c.stop.ensures c.race_and_put-bank.ensures.keeps
     (λ a can.
-    c.put_end-ran.ensures.reports true lines c.in-Ok.bank c.race_and_put-bank.result.0 a before faults (sym c.bus.ensures) (c.race_and_put-bank.ensures.runs a can))
+    c.put_end-ran.ensures.reports true lines c.in-Ok.bank c.race_and_put-bank.result.0 a before (sym c.bus.ensures) (c.race_and_put-bank.ensures.runs a can))
 
 pub returns-in-Ok-clause-lanes : goal.returns-in-Ok-clause-lanes
 returns-in-Ok-clause-lanes g c =

@@ -1,29 +1,26 @@
 use Rattle.std.proofs.Common.{false, sym}
-use Rattle.nor_script.specs.Puts.{Taken}
 use Rattle.nor_run.proofs.Growing.{put_runs, put_ends}
 use Rattle.nor_run.proofs.Reporting.{reports, ends_run, keeps_lanes}
 use Rattle.nor_run.proofs.bank.run_bank.Goals as goal
 
 pub returns-in-Ok-clause-ends : goal.returns-in-Ok-clause-ends
 returns-in-Ok-clause-ends g c =
-    let before = g.K.Sink.taken c.args.out.now in
-    let faults = g.K.Sink.faults c.args.out.now in
-    let mid : Taken = record { before = before; after = g.K.Sink.taken c.run_lines.new.out; faults_before = faults; faults_after = g.K.Sink.faults c.run_lines.new.out } in
-    let last : Taken = record { before = before; after = g.K.Sink.taken c.put_end-ran.new.out; faults_before = faults; faults_after = g.K.Sink.faults c.put_end-ran.new.out } in
-    ends_run false g.W.BusWord.WIDTH c.args.bank c.in-Ok.bank last c.put_end-ran.result c.in-Ok.ensures.started
-    (c.put_end-ran.ensures.ends false before faults c.run_lines.ensures.later (put_ends false mid c.run_lines.result c.of_put-ran.result c.of_put-ran.ensures c.run_lines.ensures.fault))
+    let before = g.K.Sink.state c.args.out.now in
+    let mid = g.K.Sink.state c.run_lines.new.out in
+    let last = g.K.Sink.state c.put_end-ran.new.out in
+    ends_run false g.W.BusWord.WIDTH c.args.bank c.in-Ok.bank before last c.put_end-ran.result c.in-Ok.ensures.started
+    (c.put_end-ran.ensures.ends false before c.run_lines.ensures.later (put_ends false before mid c.run_lines.result c.of_put-ran.result c.of_put-ran.ensures c.run_lines.ensures.fault))
 
 pub returns-in-Ok-clause-reports : goal.returns-in-Ok-clause-reports
 returns-in-Ok-clause-reports g c =
-    let before = g.K.Sink.taken c.args.out.now in
-    let faults = g.K.Sink.faults c.args.out.now in
+    let before = g.K.Sink.state c.args.out.now in
     let lines = c.args.lines.now in
-    let mid : Taken = record { before = before; after = g.K.Sink.taken c.run_lines.new.out; faults_before = faults; faults_after = g.K.Sink.faults c.run_lines.new.out } in
-    let last : Taken = record { before = before; after = g.K.Sink.taken c.put_end-ran.new.out; faults_before = faults; faults_after = g.K.Sink.faults c.put_end-ran.new.out } in
-    reports false g.W.BusWord.WIDTH c.args.bank lines c.in-Ok.bank c.run_lines.new.bank c.stop.result last c.put_end-ran.result c.in-Ok.ensures.started c.stop.ensures c.run_lines.ensures.keeps
+    let mid = g.K.Sink.state c.run_lines.new.out in
+    let last = g.K.Sink.state c.put_end-ran.new.out in
+    reports false g.W.BusWord.WIDTH c.args.bank lines c.in-Ok.bank c.run_lines.new.bank c.stop.result before last c.put_end-ran.result c.in-Ok.ensures.started c.stop.ensures c.run_lines.ensures.keeps
     (λ a can.
-    c.put_end-ran.ensures.reports false lines c.in-Ok.bank c.run_lines.new.bank a before faults (sym c.bus.ensures)
-    (put_runs lines c.in-Ok.bank c.run_lines.new.bank a mid c.run_lines.result c.of_put-ran.result can c.of_put-ran.ensures c.run_lines.ensures.ran c.run_lines.ensures.stopped))
+    c.put_end-ran.ensures.reports false lines c.in-Ok.bank c.run_lines.new.bank a before (sym c.bus.ensures)
+    (put_runs lines c.in-Ok.bank c.run_lines.new.bank a before mid c.run_lines.result c.of_put-ran.result can c.of_put-ran.ensures c.run_lines.ensures.ran c.run_lines.ensures.stopped))
 
 pub returns-in-Ok-clause-lanes : goal.returns-in-Ok-clause-lanes
 returns-in-Ok-clause-lanes g c =

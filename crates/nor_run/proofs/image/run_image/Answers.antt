@@ -1,29 +1,17 @@
-use Rattle.std.proofs.Common.{◌∙◌, false, ℕ, List, length, ap, sym}
-use Rattle.nor_image.specs.Image.{device_of}
-use Rattle.nor_image.specs.Loaded.{bus_of, loaded_width}
-use Rattle.nor_run.proofs.FileSizes.{file_length}
-use Rattle.nor_run.proofs.JustLoaded.{just_loaded}
-use Rattle.nor_run.proofs.Reporting.{image_reports}
+use Rattle.std.proofs.Common.{false}
+use Rattle.nor_run.proofs.Reporting.{from_file, fits_file, image_reports}
 use Rattle.nor_run.proofs.image.run_image.Goals as goal
 
 pub run_loaded-loaded-requires-clause-loaded : goal.run_loaded-loaded-requires-clause-loaded
-run_loaded-loaded-requires-clause-loaded g c = record {
-  device = device_of c.args.file.now;
-  bank = c.requires.loaded.bank;
-  fresh = c.requires.loaded.fresh;
-  storable = c.requires.loaded.storable;
-  chips = λ k below. just_loaded c.args.file.now (loaded_width c.args.loaded) (bus_of c.args.loaded).lanes k c.requires.loaded.image below;
-}
+run_loaded-loaded-requires-clause-loaded g c = from_file c.args.loaded c.requires.loaded
 
 pub fill_image-requires : goal.fill_image-requires
 fill_image-requires g c =
-    ap (λ (xs : List ℕ). length xs) c.requires.loaded.spelled
-    ∙ sym (file_length (loaded_width c.args.loaded) (bus_of c.args.loaded) (bus_of c.run_loaded-loaded.result.0) c.run_loaded-loaded.ensures.lanes)
+    fits_file c.args.file.now c.args.loaded c.run_loaded-loaded.result.0 c.requires.loaded c.requires.room c.run_loaded-loaded.ensures.width c.run_loaded-loaded.ensures.lanes
 
 pub returns-in-Ok-clause-reports : goal.returns-in-Ok-clause-reports
 returns-in-Ok-clause-reports g c = λ qry.
-    image_reports false (loaded_width c.args.loaded) (loaded_width c.run_loaded-loaded.result.0) c.args.lines.now (bus_of c.args.loaded) (bus_of c.run_loaded-loaded.result.0)
-    (record { before = g.K.Sink.taken c.args.out.now; after = g.K.Sink.taken c.run_loaded-loaded.new.out; faults_before = g.K.Sink.faults c.args.out.now; faults_after = g.K.Sink.faults c.run_loaded-loaded.new.out })
-    c.in-Ok.ran c.run_loaded-loaded.result.1
-    c.fill_image.new.file c.run_loaded-loaded.ensures.width (device_of c.args.file.now) c.requires.loaded.bank c.requires.loaded.storable c.run_loaded-loaded.ensures.lanes c.in-Ok.is
+    image_reports false c.args.lines.now c.args.loaded c.run_loaded-loaded.result.0
+    (g.K.Sink.state c.args.out.now) (g.K.Sink.state c.run_loaded-loaded.new.out)
+    c.in-Ok.ran c.run_loaded-loaded.result.1 c.fill_image.new.file c.requires.loaded c.run_loaded-loaded.ensures.width c.run_loaded-loaded.ensures.lanes c.in-Ok.is
     (c.run_loaded-loaded.ensures.reports qry) c.fill_image.ensures.file c.fill_image.ensures.stands

@@ -6,8 +6,8 @@ use Rattle.nor_run.proofs.lines.run_lines.Given as goal
 
 abbrev pub invariant-loop-line : goal.invariant-loop-line
 invariant-loop-line g l = record {
-  runs : (a : ArrayState) → CanCall l.fn.bank a → RunsSoFar l.lines l.line-index l.fn.bank l.bank a (g.K.Sink.taken l.fn.out) (g.K.Sink.taken l.out) l.ran;
+  runs : (a : ArrayState) → CanCall l.fn.bank a → RunsSoFar l.lines l.line-index l.fn.bank l.bank a (g.K.Sink.state l.fn.out) (g.K.Sink.state l.out) l.ran;
   keeps : KeepsBank l.fn.bank l.bank;
   few : l.ran.entries ≡ l.line-index;
-  later : g.K.Sink.faults l.fn.out ≤ g.K.Sink.faults l.out;
+  later : (g.K.Sink.state l.fn.out).faults ≤ (g.K.Sink.state l.out).faults;
 }

@@ -1,7 +1,7 @@
 use Rattle.std.proofs.Common.{◌∙◌, ℕ, List, ap, subst}
 use Rattle.hex.specs.Hex.{encode_lower}
 use Rattle.nor_bus.specs.Bus.{bank_bytes}
-use Rattle.nor_script.specs.Puts.{PutsText}
+use Rattle.nor_io.specs.Puts.{PutsText}
 use Rattle.norbank.proofs.BankBytes.{bytes_of, still_open}
 use Rattle.norbank.proofs.printing.put_piece.Goals as goal
 
@@ -12,7 +12,7 @@ returns-clause-puts g c = λ device bank.
     let read = reads device (record { bank = bank; chips = c.requires.open.chips; within = c.requires.within }) in
     let is = bytes_of device old.lanes c.args.at c.read_range.new.into read.bytes_are in
     let text = is ∙ ap (λ (n : ℕ). bank_bytes device old.lanes c.args.at n) c.read_range.ensures.length in
-    subst (λ (bytes : List ℕ). PutsText (encode_lower bytes) (record { before = g.K.Sink.taken c.args.out.now; after = g.K.Sink.taken c.put_hex.new.out; faults_before = g.K.Sink.faults c.args.out.now; faults_after = g.K.Sink.faults c.put_hex.new.out }) c.put_hex.result) text c.put_hex.ensures.puts
+    subst (λ (bytes : List ℕ). PutsText (encode_lower bytes) (g.K.Sink.state c.args.out.now) (g.K.Sink.state c.put_hex.new.out) c.put_hex.result) text c.put_hex.ensures.puts
 
 pub returns-clause-open : goal.returns-clause-open
 returns-clause-open g c =

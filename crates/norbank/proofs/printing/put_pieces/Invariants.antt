@@ -5,7 +5,7 @@ use Rattle.norbank.proofs.printing.put_pieces.Given as goal
 abbrev pub invariant-loop-done : goal.invariant-loop-done
 invariant-loop-done g l =
     PrintedTo g.W.BusWord.WIDTH l.at l.len l.done (g.B.Bus.state l.fn.bus) (g.B.Bus.state l.bus)
-    (g.K.Sink.taken l.fn.out) (g.K.Sink.taken l.out) (g.K.Sink.faults l.fn.out) (g.K.Sink.faults l.out)
+    (g.K.Sink.state l.fn.out) (g.K.Sink.state l.out)
 
 abbrev pub decreases-loop-done : goal.decreases-loop-done
 decreases-loop-done g l = l.len - l.done

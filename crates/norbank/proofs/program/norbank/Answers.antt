@@ -1,6 +1,4 @@
 use Rattle.std.proofs.Common.{◌≡◌, ◌∙◌, sym, length, arith, true}
-use Rattle.norbank.specs.Runs.{shelved}
-use Rattle.norbank.specs.Says.{took}
 use Rattle.norbank.specs.Words.{word_at}
 use Rattle.norbank.proofs.AsAsked.{ends_script, of_race}
 use Rattle.norbank.proofs.RunStages.{names_as}
@@ -12,16 +10,20 @@ word-requires-in-Race g c = let three : length c.args.words.now ≡ 3 = race_wor
 
 pub returns-in-Race-clause-race : goal.returns-in-Race-clause-race
 returns-in-Race-clause-race g c = λ asks.
-    let shelf = shelved (g.H.Shelf.files c.args.shelf.now) (g.H.Shelf.files c.race.new.shelf) (g.H.Shelf.faults c.args.shelf.now) (g.H.Shelf.faults c.race.new.shelf) in
-    let taken = took (g.K.Sink.taken c.args.out.now) (g.K.Sink.taken c.race.new.out) (g.K.Sink.faults c.args.out.now) (g.K.Sink.faults c.race.new.out) in
-    ends_script true (word_at c.args.words.now 1) (word_at c.args.words.now 2) shelf taken c.race.result.code
-    (names_as true c.word.result.now (word_at c.args.words.now 1) c.word-in-Race.result.now (word_at c.args.words.now 2) shelf taken c.race.result.code
+    let was = g.H.Shelf.state c.args.shelf.now in
+    let now = g.H.Shelf.state c.race.new.shelf in
+    let before = g.K.Sink.state c.args.out.now in
+    let after = g.K.Sink.state c.race.new.out in
+    ends_script true (word_at c.args.words.now 1) (word_at c.args.words.now 2) was now before after c.race.result.code
+    (names_as true c.word.result.now (word_at c.args.words.now 1) c.word-in-Race.result.now (word_at c.args.words.now 2) was now before after c.race.result.code
     c.word.ensures c.word-in-Race.ensures c.race.ensures.runs)
 
 pub returns-in-Race-clause-ends : goal.returns-in-Race-clause-ends
 returns-in-Race-clause-ends g c =
-    let shelf = shelved (g.H.Shelf.files c.args.shelf.now) (g.H.Shelf.files c.race.new.shelf) (g.H.Shelf.faults c.args.shelf.now) (g.H.Shelf.faults c.race.new.shelf) in
-    let taken = took (g.K.Sink.taken c.args.out.now) (g.K.Sink.taken c.race.new.out) (g.K.Sink.faults c.args.out.now) (g.K.Sink.faults c.race.new.out) in
-    of_race c.args.words.now shelf taken c.race.result.code (sym c.command_of.ensures ∙ c.in-Race.is)
-    (names_as true c.word.result.now (word_at c.args.words.now 1) c.word-in-Race.result.now (word_at c.args.words.now 2) shelf taken c.race.result.code
+    let was = g.H.Shelf.state c.args.shelf.now in
+    let now = g.H.Shelf.state c.race.new.shelf in
+    let before = g.K.Sink.state c.args.out.now in
+    let after = g.K.Sink.state c.race.new.out in
+    of_race c.args.words.now was now before after c.race.result.code (sym c.command_of.ensures ∙ c.in-Race.is)
+    (names_as true c.word.result.now (word_at c.args.words.now 1) c.word-in-Race.result.now (word_at c.args.words.now 2) was now before after c.race.result.code
     c.word.ensures c.word-in-Race.ensures c.race.ensures.runs)

@@ -2,16 +2,16 @@ use Rattle.std.proofs.Common.{◌≡◌, ℕ, List, inl, inr, subst, rules}
 use Rattle.nor_io.specs.Files.{Rose}
 use Rattle.norbank.specs.Endings.{ends}
 use Rattle.norbank.specs.Runs.{write_fault}
-use Rattle.norbank.specs.Says.{Says, took}
+use Rattle.norbank.specs.Says.{Says}
 use Rattle.norbank.proofs.running.save_bank.Goals as goal
 
 pub returns-in-Err-WriteFault : goal.returns-in-Err-WriteFault
 returns-in-Err-WriteFault g c =
-    let rose : Rose (g.H.Shelf.faults c.args.shelf.now) (g.H.Shelf.faults c.save.new.self) = search rules in
+    let rose : Rose (g.H.Shelf.state c.args.shelf.now).faults (g.H.Shelf.state c.save.new.self).faults = search rules in
     let name : c.as_bytes.result.now ≡ c.args.name.now = c.as_bytes.ensures.value in
     record {
       saved = inr (
         c.in-Err-WriteFault.ensures.err,
-        inl (rose, subst (λ (n : List ℕ). Says (ends 7 (write_fault n)) (took (g.K.Sink.taken c.args.out.now) (g.K.Sink.taken c.say_line.new.out) (g.K.Sink.faults c.args.out.now) (g.K.Sink.faults c.say_line.new.out)) c.say_line.result.code) name c.say_line.ensures.says),
+        inl (rose, subst (λ (n : List ℕ). Says (ends 7 (write_fault n)) (g.K.Sink.state c.args.out.now) (g.K.Sink.state c.say_line.new.out) c.say_line.result.code) name c.say_line.ensures.says),
       );
     }

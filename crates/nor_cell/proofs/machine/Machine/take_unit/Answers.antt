@@ -35,7 +35,7 @@ invariant_of-self c =
       | then-missing-gt1 w ↦ subst (λ (k : NextStep). StepFits k next z) (sym w.self-is) (record { inside = inside; short = short; some = omega (arith, w.if-missing-gt1.true); room = fits.room })
       | else-missing-gt1 w ↦ subst (λ (k : NextStep). StepFits k next z) (sym w.self-is) (record { inside = inside; some = load_some z.device c.args.value load })
     ] in
-    record { size = c.self.invariant.size; step_inside = subst (λ (l : List ℕ). StepFits c.if-missing-gt1.self l z) (sym c.push_unit.ensures) step_inside; job_inside = idle_fits c.self.inside.job load _ z (ap (λ (t : ChipState). t.job) c.self.view_is ∙ c.requires.job) }
+    record { size = c.self.invariant.size; mode_offered = c.self.invariant.mode_offered; step_inside = subst (λ (l : List ℕ). StepFits c.if-missing-gt1.self l z) (sym c.push_unit.ensures) step_inside; job_inside = idle_fits c.self.inside.job load _ z (ap (λ (t : ChipState). t.job) c.self.view_is ∙ c.requires.job) }
 
 pub returns-after-missing-gt1 : goal.returns-after-missing-gt1
 returns-after-missing-gt1 c =

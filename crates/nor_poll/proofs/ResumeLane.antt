@@ -1,0 +1,188 @@
+-- A resume of one lane, by either set.
+use Rattle.std.proofs.Common.{◌≡◌, ◌≢◌, ◌⊎◌, inl, inr, ◌+◌, ◌*◌, ◌<◌, ◌%◌, ◌^◌, ◌==◌, ◌||◌, ◌&&◌, ℕ, List, refl, sym, ap, subst, ◌∙◌, arith, Bool, true, false, if◌then◌else◌}
+use Rattle.nor_cell.specs.Bits.{unit_len}
+use Rattle.nor_cell.specs.Chip.{ChipState, Array, Status, Rest, Job, Idle, Erase, Target, OneBlock, AllBlocks, Held, NotHeld, Holds, NoFault, has_blocks, is_held, is_within, covered, reads_left}
+use Rattle.nor_cell.specs.Intel.{commanded}
+use Rattle.nor_cell.specs.Amd.{array_steps}
+use Rattle.nor_cell.specs.Look.{resumed, resumed_from}
+use Rattle.nor_cell.specs.Power.{erases_at, holds_at, programs_at}
+use Rattle.nor_cell.specs.Steps.{written}
+use Rattle.nor_cell.specs.declared.device.Set.{Set}
+use Rattle.nor_cell.specs.declared.device.Set.TheVariants.{Intel, Amd}
+use Rattle.nor_cell.specs.declared.device.Device.{Device}
+use Rattle.nor_cell.specs.declared.device.Device.TheVariants.{X8, X16, X16Byte}
+use Rattle.nor_cell.specs.declared.device.Span.{Span}
+use Rattle.nor_bus.specs.Bus.{wide}
+use Rattle.nor_bus.specs.Driven.{spread, Darkens}
+use Rattle.nor_poll.specs.Erase.{ChangesWithinErase}
+use Rattle.nor_poll.specs.Toggles.{names_job}
+use Rattle.nor_poll.specs.Rest.{AtRest, settled}
+use Rattle.nor_poll.specs.Resume.{TakesResume, Resumes, resume_code}
+use Rattle.nor_poll.specs.UnderErase.{LaneIs, IsUntold, ShowsErase, holds_target, held_left}
+use Rattle.nor_poll.specs.declared.lanes.LaneState.{LaneState}
+use Rattle.nor_poll.specs.declared.lanes.LaneState.TheVariants.{Running, Suspended, Finished, Broken}
+use Rattle.nor_poll.proofs.Codes1.{spread_low, by_step as step_1}
+use Rattle.nor_poll.proofs.Codes2.{by_step as step_2, reset_by}
+use Rattle.nor_poll.proofs.Erasing.{dark_within, dark_resting}
+
+-- ---- the word
+
+value_of : (device : Device) (code : ℕ) → code < 256 → (257 * code) % 256 ^ unit_len device ≡ spread (unit_len device) code
+value_of X8 code h = omega arith
+value_of X16 code h = omega arith
+value_of X16Byte code h = omega arith
+
+-- a lane more has its code
+pub code_more : (lane_at : ℕ → ℕ) (device : Device) (f : ℕ → ℕ) (k value code : ℕ) (after : ℕ → ℕ) → value ≡ 257 * code → code < 256 → code ≡ f k
+    → after k ≡ value % 256 ^ unit_len device → ((c : ℕ) → c ≢ k → after c ≡ lane_at c) → ((c : ℕ) → c < k → lane_at c ≡ spread (unit_len device) (f c)) → (c : ℕ) → c < k + 1 → (c ≡ k) ⊎ (c ≢ k)
+    → after c ≡ spread (unit_len device) (f c)
+code_more lane_at device f k value code after is small own here others done c below (inl e) =
+    ap after e ∙ (here ∙ (ap (λ (v : ℕ). v % 256 ^ unit_len device) is ∙ (value_of device code small ∙ (ap (spread (unit_len device)) own ∙ ap (λ (i : ℕ). spread (unit_len device) (f i)) (sym e)))))
+code_more lane_at device f k value code after is small own here others done c below (inr ne) = others c ne ∙ done c (omega arith)
+
+-- ---- a suspended lane
+
+-- the chip holds the erase of the one block
+pub record HoldsOne (target : Target) (held : Held) : Type 0 where
+  pub number : ℕ
+  pub left : ℕ
+  pub held_is : held ≡ Holds number left
+  pub target_is : target ≡ OneBlock number
+
+same_by : (a b : ℕ) → (a == b) ≡ true → a ≡ b
+same_by a b h = grind (arith, h)
+
+holds_one : (held : Held) (target : Target) → holds_target held target ≡ true → HoldsOne target held
+holds_one NotHeld target h = cc
+holds_one (Holds b left) (OneBlock c) h = record { number = b; left = left; held_is = refl; target_is = ap OneBlock (same_by c b h) }
+holds_one (Holds b left) AllBlocks h = cc
+
+-- the chip after the resume code
+abbrev runs_again : Set → ℕ → ℕ → ChipState → ChipState
+runs_again Intel b left s = record s { mode = Status; job = Erase (OneBlock b) left; held = NotHeld }
+runs_again Amd b left s = record s { job = Erase (OneBlock b) left; held = NotHeld }
+
+resumes_1 : (u b left : ℕ) (s : ChipState) → AtRest Intel s → has_blocks s.part.blocks ≡ true → s.held ≡ Holds b left → written s u (spread (wide s) 0xD0) ≡ runs_again Intel b left s
+resumes_1 u b left s rest blocks held =
+    step_1 s u (spread (wide s) 0xD0) Rest rest.set rest.job rest.step
+    ∙ (ap (commanded s u) (spread_low s.part.device 0xD0 (omega arith))
+    ∙ (ap (λ (k : Bool). if k && is_held s.held then record (resumed s) { mode = Status } else record s { mode = Array }) blocks
+    ∙ ap (λ (h : Held). if is_held h then record (resumed_from h s) { mode = Status } else record s { mode = Array }) held))
+
+resumes_2 : (u b left : ℕ) (s : ChipState) → AtRest Amd s → (s.mode ≡ Array) × (s.fault ≡ NoFault) → has_blocks s.part.blocks ≡ true → s.held ≡ Holds b left
+    → written s u (spread (wide s) 0x30) ≡ runs_again Amd b left s
+resumes_2 u b left s rest takes blocks held =
+    step_2 s u (spread (wide s) 0x30) Rest rest.set rest.job takes.1 takes.0 rest.step
+    ∙ (ap (array_steps Rest s u (spread (wide s) 0x30)) (spread_low s.part.device 0x30 (omega arith))
+    ∙ (ap (λ (k : Bool). if k then resumed s else s) blocks ∙ ap (λ (h : Held). resumed_from h s) held))
+
+runs_by : (set : Set) (u b left : ℕ) (target : Target) (s : ChipState) → TakesResume set target Suspended s → s.held ≡ Holds b left → written s u (spread (wide s) (resume_code set Suspended)) ≡ runs_again set b left s
+runs_by Intel u b left target s takes held = resumes_1 u b left s takes.rest takes.blocks held
+runs_by Amd u b left target s takes held = resumes_2 u b left s takes.rest (takes.takes refl) takes.blocks held
+
+shows_again : (set : Set) (b left : ℕ) (s : ChipState) → ShowsErase set (runs_again set b left s)
+shows_again Intel b left s = refl
+shows_again Amd b left s = tt
+
+untold_again : (set : Set) (b left : ℕ) (s : ChipState) → IsUntold set s → IsUntold set (runs_again set b left s)
+untold_again Intel b left s h = h
+untold_again Amd b left s h = h
+
+left_again : (job : Job) (held : Held) (b left : ℕ) → job ≡ Idle → held ≡ Holds b left → left + 0 ≡ reads_left job + held_left held
+left_again job held b left idle is = rw (idle, is) (omega arith)
+
+resumes_as : (set : Set) (b left : ℕ) (target : Target) (s : ChipState) → TakesResume set target Suspended s → s.held ≡ Holds b left → target ≡ OneBlock b → Resumes set target Suspended s (runs_again set b left s)
+resumes_as Intel b left target s takes held is = record {
+  next = record {
+    set_is = takes.rest.set;
+    step = takes.rest.step;
+    shows = tt;
+    awake = λ e. cc;
+    is = (
+      inl (record {
+        left = left;
+        job = ap (λ (t : Target). Erase t left) (sym is);
+        shows = subst (λ (k : Set). ShowsErase k (runs_again Intel b left s)) (sym takes.rest.set) refl;
+        untold = subst (λ (k : Set). IsUntold k (runs_again Intel b left s)) (sym takes.rest.set) (untold_again Intel b left s (subst (λ (k : Set). IsUntold k s) takes.rest.set takes.is.2));
+      }),
+      refl,
+    );
+  };
+  part = refl;
+  cells = refl;
+  locks = refl;
+  suspends = refl;
+  erases = refl;
+  left = left_again s.job s.held b left takes.rest.job held;
+  shown = λ other. absurd (other refl);
+}
+resumes_as Amd b left target s takes held is = record {
+  next = record {
+    set_is = takes.rest.set;
+    step = takes.rest.step;
+    shows = (ap names_job (takes.takes refl).1, λ none. (takes.takes refl).0, takes.rest.resets);
+    awake = λ e. cc;
+    is = (
+      inl (record {
+        left = left;
+        job = ap (λ (t : Target). Erase t left) (sym is);
+        shows = subst (λ (k : Set). ShowsErase k (runs_again Amd b left s)) (sym takes.rest.set) tt;
+        untold = subst (λ (k : Set). IsUntold k (runs_again Amd b left s)) (sym takes.rest.set) (takes.takes refl).1;
+      }),
+      refl,
+    );
+  };
+  part = refl;
+  cells = refl;
+  locks = refl;
+  suspends = refl;
+  erases = refl;
+  left = left_again s.job s.held b left takes.rest.job held;
+  shown = λ other. absurd (other refl);
+}
+
+-- ---- a lane that has ended
+
+abbrev shows_array : Set → ChipState → ChipState
+shows_array Intel s = record s { mode = Array }
+shows_array Amd s = settled Amd s
+
+ends_by : (set : Set) (u : ℕ) (s : ChipState) → AtRest set s → written s u (spread (wide s) (resume_code set Finished)) ≡ shows_array set s
+ends_by Intel u s rest = step_1 s u (spread (wide s) 0xFF) Rest rest.set rest.job rest.step ∙ ap (commanded s u) (spread_low s.part.device 0xFF (omega arith))
+ends_by Amd u s rest = reset_by s.mode s.fault s u (spread (wide s) 0xF0) rest.set rest.job rest.step refl refl (spread_low s.part.device 0xF0 (omega arith)) rest.resets
+
+finished_as : (set : Set) (target : Target) (s : ChipState) → AtRest set s → LaneIs Finished target s → Resumes set target Finished s (shows_array set s)
+finished_as Intel target s rest is = record { next = record { set_is = rest.set; step = rest.step; shows = tt; is = (record { ones = is.0.ones; sound = is.0.sound }, record { job = is.1.job; held = is.1.held }); awake = λ e. cc }; part = refl; cells = refl; locks = refl; suspends = refl; erases = refl; left = refl; shown = λ other. refl }
+finished_as Amd target s rest is = record { next = record { set_is = rest.set; step = rest.step; shows = (refl, λ none. refl, refl); is = (record { ones = is.0.ones; sound = is.0.sound }, record { job = is.1.job; held = is.1.held }); awake = λ e. cc }; part = refl; cells = refl; locks = refl; suspends = refl; erases = refl; left = refl; shown = λ other. refl }
+
+broken_as : (set : Set) (target : Target) (s : ChipState) → AtRest set s → LaneIs Broken target s → Resumes set target Broken s (shows_array set s)
+broken_as Intel target s rest is = record { next = record { set_is = rest.set; step = rest.step; shows = tt; is = (is.0, record { job = is.1.job; held = is.1.held }); awake = λ e. cc }; part = refl; cells = refl; locks = refl; suspends = refl; erases = refl; left = refl; shown = λ other. refl }
+broken_as Amd target s rest is = record { next = record { set_is = rest.set; step = rest.step; shows = (refl, λ none. refl, refl); is = (is.0, record { job = is.1.job; held = is.1.held }); awake = λ e. cc }; part = refl; cells = refl; locks = refl; suspends = refl; erases = refl; left = refl; shown = λ other. refl }
+
+same_code : (set : Set) → resume_code set Broken ≡ resume_code set Finished
+same_code Intel = refl
+same_code Amd = refl
+
+pub resumes : (set : Set) (u : ℕ) (target : Target) (state : LaneState) (s t : ChipState) → TakesResume set target state s → t ≡ written s u (spread (wide s) (resume_code set state)) → Resumes set target state s t
+resumes set u target Running s t takes is = absurd (takes.idle refl)
+resumes set u target Suspended s t takes is =
+    let h = holds_one s.held target takes.is.0 in
+    subst (λ (x : ChipState). Resumes set target Suspended s x) (sym (is ∙ runs_by set u h.number h.left target s takes h.held_is)) (resumes_as set h.number h.left target s takes h.held_is h.target_is)
+resumes set u target Finished s t takes is =
+    subst (λ (x : ChipState). Resumes set target Finished s x) (sym (is ∙ ends_by set u s takes.rest)) (finished_as set target s takes.rest takes.is)
+resumes set u target Broken s t takes is =
+    subst (λ (x : ChipState). Resumes set target Broken s x) (sym (is ∙ (ap (λ (n : ℕ). written s u (spread (wide s) n)) (same_code set) ∙ ends_by set u s takes.rest))) (broken_as set target s takes.rest takes.is)
+
+-- ---- a cycle that failed
+
+holds_there : (job : Job) (held : Held) (blocks : List Span) (target : Target) (b left p : ℕ) → job ≡ Idle → held ≡ Holds b left → target ≡ OneBlock b → is_within (covered target blocks) p ≡ false
+    → (erases_at job blocks p || holds_at held blocks p) ≡ false
+holds_there job held blocks target b left p idle is one out = rw (idle, is) (ap (λ (t : Target). is_within (covered t blocks) p) (sym one) ∙ out)
+
+pub loses_resume : (set : Set) (target : Target) (state : LaneState) (s t : ChipState) → TakesResume set target state s → Darkens s t → ChangesWithinErase target s t
+loses_resume set target Running s t takes dark = absurd (takes.idle refl)
+loses_resume set target Suspended s t takes dark =
+    let h = holds_one s.held target takes.is.0 in
+    dark_within target s t (λ p out. holds_there s.job s.held s.part.blocks target h.number h.left p takes.rest.job h.held_is h.target_is out) (λ p. ap (λ (j : Job). programs_at j p) takes.rest.job) dark
+loses_resume set target Finished s t takes dark = dark_resting target s t takes.is.1.job takes.is.1.held dark
+loses_resume set target Broken s t takes dark = dark_resting target s t takes.is.1.job takes.is.1.held dark

@@ -1,2 +1,0 @@
-mod Commanding
-mod Beginning

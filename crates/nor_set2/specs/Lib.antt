@@ -1,2 +1,0 @@
-pub mod Unlock
-pub mod Polls
