@@ -27,13 +27,16 @@
 //! All chips have lane 0's size, and are of the set that lane 0's table names. k is the number of
 //! blocks where that is set 0002, which keeps locks without power, and the lane's table is one that
 //! is accepted and offers locks; else it is 0. Lanes with equally many locks have the same ones.
-//! Modes and jobs aren't stored, and in version 1 no lock is set: a bank that is loaded was just
-//! powered on.
+//! Modes and jobs aren't stored: a bank that is loaded was just powered on, which sets all locks of
+//! a chip of set 0001 that offers them. One of set 0002 that offers them has the locks of its record,
+//! and in version 1 none set; any other chip has none set.
 //!
 //! [`read_image`] answers such a bank exactly where the file is well formed, and else the first
 //! refusal, field by field, at its place. [`write_image`] and [`fill_image`] give the file of a bank,
-//! of version 2, and reading that file gives the bank again, just powered on. A file that was read is
-//! the bank's file in its own version, byte by byte.
+//! of version 2. Reading that file gives the bank again, just powered on, where a file can store it:
+//! each chip's size and blocks are those of its table, its set is the one that lane 0's table names,
+//! and lanes that keep equally many locks have the same ones. A file that was read is the bank's file
+//! in its own version, byte by byte.
 //!
 //! `specs/Image.antt` has the format as the list of a file's fields, each with its place, its length
 //! and what its value is refused with, and the chip that a record stores. `specs/Written.antt` has
