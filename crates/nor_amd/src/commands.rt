@@ -1,13 +1,14 @@
 //! The command language: what a write does when no job runs.
 ghost use Rattle.std.specs.Prelude.{◌≡◌, ◌<◌, ◌%◌};
 ghost use Rattle.nor_cell.specs.Amd.{aborted, begin_program, begin_erase, begin_erase_all, array_steps, query_steps, abort_steps, fault_steps};
-ghost use Rattle.nor_cell.specs.Chip.{Array, Rest, U2, E3, Idle, NoFault, BufferConfirm, units, block_of};
+ghost use Rattle.nor_cell.specs.Chip.{Array, Rest, Unlock2, Erase3, Idle, NoFault, BufferConfirm, units, block_of};
 ghost use Rattle.nor_cell.specs.Machine.{load_of};
 
-use crate::addresses::{first_address, is_first_unlock, is_second_unlock, query_address};
+use crate::addresses::{is_first_unlock, is_second_unlock, query_address};
 use crate::locks::locks_step;
 use nor_cell::{
-    EraseTarget, Failure, Machine, NextStep, Set, ShownMode, Work, chip_erase_of, has_locks,
+    EraseTarget, Failure, Machine, NextStep, Set, ShownMode, Work, chip_erase_of, first_address,
+    has_locks,
 };
 
 /// The suspend code, which alone is taken while a job runs.
@@ -96,7 +97,7 @@ fn begin_erase_all(chip: &mut Machine)
 // The last cycle of an erase, by the code.
 fn last_of_erase(chip: &mut Machine, at: u32, code: u8)
     requires { at < units chip.old }
-    ensures { chip.new ≡ array_steps E3 chip.old at code code }
+    ensures { chip.new ≡ array_steps Erase3 chip.old at code code }
 {
     let takes_all = at == first_address(chip.cells.device)
         && chip_erase_of(Set::Amd, &chip.cells.table);
@@ -126,7 +127,7 @@ fn rest(chip: &mut Machine, at: u32, code: u8)
 // Behind both unlock cycles, by the code.
 fn command(chip: &mut Machine, at: u32, code: u8)
     requires { at < units chip.old }
-    ensures { chip.new ≡ array_steps U2 chip.old at code code }
+    ensures { chip.new ≡ array_steps Unlock2 chip.old at code code }
 {
     let at_first = at == first_address(chip.cells.device);
     let erases = at_first && !chip.is_held();

@@ -3,9 +3,9 @@ ghost use Rattle.std.specs.Prelude.{◌≡◌, ◌<◌, ◌+◌, ◌-◌, ◌^�
 ghost use Rattle.nor_cell.specs.Amd.{array_at, mode_at, fault_at, shown};
 ghost use Rattle.nor_cell.specs.Bits.{unit_len};
 ghost use Rattle.nor_cell.specs.Chip.{units};
-ghost use Rattle.nor_cell.specs.Intel.{bit_if};
+ghost use Rattle.nor_cell.specs.Shown.{bit_if};
 
-use crate::toggles::in_held;
+use crate::toggles::holds_at;
 use nor_cell::{Device, Failure, Machine, RunningJob, ShownMode, unit_len};
 
 // Bits of the status. Bit 7 tells data: while a unit is programmed, the complement of its bit 7.
@@ -49,7 +49,7 @@ fn array(chip: &Machine, at: u32) -> u16
     ensures shows { result ≡ array_at chip.now at }
     ensures fits { result < 256 ^ unit_len (chip.now).part.device }
 {
-    if in_held(chip, at) {
+    if holds_at(chip, at) {
         DATA + bit_if(TOGGLE, chip.toggle_6) + bit_if(ERASE_TOGGLE, chip.toggle_2)
     } else {
         chip.array_unit(at)

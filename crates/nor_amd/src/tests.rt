@@ -216,7 +216,7 @@ fn write_unlocked(rt: &impl Abort, chip: &mut Amd, at: u32, value: u16) {
     write(rt, chip, at, value);
 }
 
-fn run(rt: &impl Abort, chip: &mut Amd, cycles: &[Cycle]) {
+fn run(rt: &impl Abort, name: &str, chip: &mut Amd, cycles: &[Cycle]) {
     for (i, cycle) in cycles.iter().enumerate() {
         match cycle {
             Write(at, value) => write(rt, chip, *at, *value),
@@ -235,13 +235,13 @@ fn run(rt: &impl Abort, chip: &mut Amd, cycles: &[Cycle]) {
             }
             Read(at, want) => {
                 assert!(rt; *at < units_of(chip));
-                assert_eq!(rt; chip.read(*at), *want, "cycle {i}");
+                assert_eq!(rt; chip.read(*at), *want, "{name}: cycle {i}");
             }
             Cut(mask) => chip.cut(*mask),
             PowerOn => chip.power_on(),
             Counted(suspends, erases) => {
-                assert_eq!(rt; chip.cells().suspends, *suspends, "cycle {i}");
-                assert_eq!(rt; chip.cells().erases, *erases, "cycle {i}");
+                assert_eq!(rt; chip.cells().suspends, *suspends, "{name}: cycle {i}");
+                assert_eq!(rt; chip.cells().erases, *erases, "{name}: cycle {i}");
             }
         }
     }
@@ -257,9 +257,17 @@ const LOAD: [Cycle; 6] = [
     Write(3, 0x4444),
 ];
 
-// A chip with this setup goes through these cycles.
-fn check(rt: &impl Abort, alloc: Global, setup: Setup, cycles: &[Cycle]) -> Result<(), Fail> {
+// A chip with this setup goes through these cycles, and then through those.
+fn check(
+    rt: &impl Abort,
+    alloc: Global,
+    name: &str,
+    setup: Setup,
+    first: &[Cycle],
+    then: &[Cycle],
+) -> Result<(), Fail> {
     let mut chip = make_chip(rt, alloc, setup)?;
-    run(rt, &mut chip, cycles);
+    run(rt, name, &mut chip, first);
+    run(rt, name, &mut chip, then);
     Ok(())
 }

@@ -1,15 +1,14 @@
 //! The toggle bits: which of them a read flips.
 ghost use Rattle.std.specs.Prelude.{◌≡◌, ◌<◌};
 ghost use Rattle.nor_cell.specs.Amd.{toggles_6, toggles_2, toggled};
-ghost use Rattle.nor_cell.specs.Chip.{units, place};
-ghost use Rattle.nor_cell.specs.Intel.{in_held};
+ghost use Rattle.nor_cell.specs.Chip.{units, place, holds_at};
 
 use nor_cell::{Failure, HeldErase, Machine, RunningJob, ShownMode, block, unit_len};
 
 /// Whether a unit lies in the block whose erase is suspended.
-pub(crate) fn in_held(chip: &Machine, at: u32) -> bool
+pub(crate) fn holds_at(chip: &Machine, at: u32) -> bool
     requires { at < units chip.now }
-    ensures { result ≡ in_held chip.now.held chip.now.part (place chip.now.part at) }
+    ensures { result ≡ holds_at chip.now.held chip.now.part.blocks (place chip.now.part at) }
 {
     let HeldErase::Block { block: number, .. } = chip.held else {
         return false;
@@ -37,7 +36,7 @@ fn toggles_2(chip: &Machine, at: u32) -> bool
         RunningJob::Idle => match chip.fault {
             Failure::ProgramTime { .. } | Failure::EraseTime { .. } => true,
             Failure::Abort => false,
-            Failure::None => matches!(chip.mode, ShownMode::Array) && in_held(chip, at),
+            Failure::None => matches!(chip.mode, ShownMode::Array) && holds_at(chip, at),
         },
     }
 }

@@ -7,6 +7,7 @@ use Rattle.std.proofs.lemmas.List.{length-take}
 use Rattle.nor_array.specs.Array.{ArrayState, range, open_span}
 use Rattle.nor_array.specs.Refusals.{refusal, first_some, when, kept_halt, while_open, is_outside, is_too_long, has_nothing}
 use Rattle.nor_array.specs.Needs.{needs_of}
+use Rattle.nor_array.specs.Entries.{is_halt}
 use Rattle.nor_array.specs.Admits.{Admits, Answers, Unrefused, AsksChips, EndsUnlocked, Ends, FailsWithin, FailsWhole, HaltLeaves, WorkLeaves, ProgramLeaves, AreUncertain, first_locked}
 use Rattle.nor_array.specs.Fits.{HaltFits, HaltIsWhole, LeftFits}
 use Rattle.nor_array.specs.declared.state.Power.{Power}
@@ -63,11 +64,7 @@ admitted_inside a e admits not_out = elim (admitted a e admits) [
 ]
 
 -- While power is on, no refusal is a halt, and none ever is a failure.
-abbrev is_halt : Reply → Bool
-is_halt (HaltedReply cause) = true
-is_halt _ = false
-
-no_halts : (power : Power) → power ≡ On → HoldsOfEach (λ reply. is_halt reply ≡ false) power
+pub no_halts : (power : Power) → power ≡ On → HoldsOfEach (λ reply. is_halt reply ≡ false) power
 no_halts power on = record {
   out_of_range = refl;
   too_long = refl;

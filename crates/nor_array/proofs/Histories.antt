@@ -1,10 +1,15 @@
 -- Histories grow at their end.
-use Rattle.std.proofs.Common.{List, [], ◌∷◌, ◌++◌}
+use Rattle.std.proofs.Common.{◌≡◌, List, [], ◌∷◌, ◌++◌, refl}
 use Rattle.nor_array.specs.Array.{ArrayState}
 use Rattle.nor_array.specs.After.{after, after_all}
 use Rattle.nor_array.specs.Admits.{Admits}
 use Rattle.nor_array.specs.Legal.{Facts, Agrees, Legal}
 use Rattle.nor_array.specs.declared.entry.Entry.{Entry}
+
+-- the array after one entry more
+pub after_last : (a : ArrayState) (es : List Entry) (e : Entry) → after_all a (es ++ e ∷ []) ≡ after (after_all a es) e
+after_last a [] e = refl
+after_last a (x ∷ es) e = after_last (after a x) es e
 
 -- what is legal has a legal front, and a last entry that fits it
 pub legal_parts : (facts : Facts) (a : ArrayState) (es : List Entry) (e : Entry) → Legal facts a (es ++ e ∷ [])

@@ -9,6 +9,7 @@ use Rattle.nor_array.specs.Refusals.{refusal, touches}
 use Rattle.nor_array.specs.Needs.{needs_of}
 use Rattle.nor_array.specs.declared.needs.Chance.{Chance}
 use Rattle.nor_array.specs.declared.needs.Chance.TheVariants.{Never, BesideErase, Always}
+use Rattle.nor_array.specs.declared.needs.Reach.{Reach}
 use Rattle.nor_array.specs.declared.state.OpenErase.{OpenErase}
 use Rattle.nor_array.specs.declared.state.ArmedCut.{ArmedCut}
 use Rattle.nor_array.specs.declared.entry.Op.{Op}
@@ -36,10 +37,13 @@ abbrev pub IsArmed : Option ArmedCut → ℕ → Type 0
 IsArmed None n = ⊥
 IsArmed (Some cut) n = cut.after ≡ n
 
--- the lowest locked block that is touched by a call whose blocks have to be unlocked
+-- the lowest locked block that is touched
+abbrev pub lowest_locked : ArrayState → Reach → Option ℕ
+lowest_locked a reach = lowest (λ b. touches a reach b && is_locked a b) 0 (length a.consts.blocks)
+
+-- and by a call whose blocks have to be unlocked
 abbrev pub first_locked : ArrayState → Op → Option ℕ
-first_locked a op =
-    if (needs_of op).unlocked then lowest (λ b. touches a (needs_of op).reach b && is_locked a b) 0 (length a.consts.blocks) else None
+first_locked a op = if (needs_of op).unlocked then lowest_locked a (needs_of op).reach else None
 
 -- so many bytes, of any value
 pub record AreUncertain (n : ℕ) (bytes : List ℕ) : Type 0 where
@@ -91,14 +95,21 @@ span_changes old at new span = is_some (lowest (would_change old at new) span.fr
 abbrev pub program_breaks : ArrayState → ℕ → List ℕ → Bool
 program_breaks a at new = list_any (span_changes a.bytes at new) a.consts.weak
 
+-- a weak span would change that meets a part of the range, or that ends before a place
+abbrev pub breaks_here : ArrayState → (at : ℕ) → List ℕ → (from len : ℕ) → Bool
+breaks_here a at new from len = list_any (λ span. meets from len span && span_changes a.bytes at new span) a.consts.weak
+
+abbrev pub breaks_before : ArrayState → (at : ℕ) → List ℕ → (from : ℕ) → Bool
+breaks_before a at new from = list_any (λ span. nat_le (span_end span) from && span_changes a.bytes at new span) a.consts.weak
+
 -- Where a program may fail: `from` up to `to` lie in its range, a weak span that meets them would change, and none that
 -- ends before them would. It leaves bytes between there.
 pub record FailsWithin (a : ArrayState) (at : ℕ) (new : List ℕ) (from to : ℕ) (bytes : List ℕ) : Type 0 where
   pub begins : at ≤ from
   pub some : from < to
   pub ends : to ≤ at + length new
-  pub here : list_any (λ span. meets from (to - from) span && span_changes a.bytes at new span) a.consts.weak ≡ true
-  pub not_before : list_any (λ span. nat_le (span_end span) from && span_changes a.bytes at new span) a.consts.weak ≡ false
+  pub here : breaks_here a at new from (to - from) ≡ true
+  pub not_before : breaks_before a at new from ≡ false
   pub between : AllBetween (range a.bytes from (to - from)) (range new (from - at) (to - from)) bytes
 
 -- A program is Done exactly where no weak span would change, and Failed exactly where one would.

@@ -1,11 +1,13 @@
 -- Laws of the definitions, by which they are seen to say what is meant.
-use Rattle.std.specs.Prelude.{◌≡◌, ◌+◌, ◌↔◌, ℕ, List, [], ◌∷◌, ◌++◌, length, slice_index, bit_and, Bool, true, false, not, ◌==◌, ◌&&◌, ◌||◌, nat_lt, nat_le, Some}
+use Rattle.std.specs.Prelude.{◌≡◌, ◌+◌, ◌↔◌, ℕ, List, [], ◌∷◌, ◌++◌, length, slice_index, bit_and, Bool, true, false, not, ◌==◌, ◌&&◌, ◌||◌, nat_lt, nat_le, Some, None}
 use Rattle.nor_cell.specs.Chip.{is_within}
 use Rattle.nor_array.specs.Array.{ArrayState, IsArray, open_span, is_on, is_locked}
 use Rattle.nor_array.specs.After.{after, after_all}
 use Rattle.nor_array.specs.Refusals.{refusal}
 use Rattle.nor_array.specs.Admits.{Admits, HasItsCaller}
-use Rattle.nor_array.specs.Legal.{Facts, Agrees, Legal}
+use Rattle.nor_array.specs.Legal.{Facts, Agrees, Legal, is_stuck}
+use Rattle.nor_array.specs.Entries.{has_halt, has_arming}
+use Rattle.nor_array.specs.declared.state.Power.TheVariants.{On}
 use Rattle.nor_array.specs.declared.entry.Op.{Op}
 use Rattle.nor_array.specs.declared.entry.Op.TheVariants.{Program, EraseOpen, EraseAll, Poll, Lock, Unlock, Arm, PowerOn}
 use Rattle.nor_array.specs.declared.entry.Reply.{Reply}
@@ -105,3 +107,8 @@ EntriesOnlyClear = (a : ArrayState) (e : Entry) (p : ℕ) → IsArray a → Admi
 abbrev pub LegalByTheLast : Type 0
 LegalByTheLast = (facts : Facts) (a : ArrayState) (es : List Entry) (e : Entry)
     → Legal facts a (es ++ e ∷ []) ↔ (Legal facts a es × Admits (after_all a es) e × Agrees facts (after_all a es) e)
+
+-- No entry is a halt where power is on and no cut is armed, no entry arms one, and no lane is stuck.
+abbrev pub HaltsHaveACause : Type 0
+HaltsHaveACause = (facts : Facts) (a : ArrayState) (es : List Entry) → Legal facts a es → a.power ≡ On → a.armed ≡ None
+    → has_arming es ≡ false → ((lane : ℕ) → is_stuck facts lane ≡ false) → has_halt es ≡ false

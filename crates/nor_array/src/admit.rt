@@ -1,9 +1,11 @@
 //! Whether an array admits an entry, decided in the plainest way.
 ghost use Rattle.std.specs.Prelude.{[], ◌∷◌, ◌≡◌, ◌<◌, ◌≤◌, ◌+◌, ◌-◌, ◌↔◌, ◌&&◌, length, IsTrue};
 ghost use Rattle.nor_cell.specs.Chip.{covered, span_end};
-ghost use Rattle.nor_array.specs.Array.{chip_target, open_span, is_locked, lowest, meets};
+ghost use Rattle.nor_array.specs.Array.{chip_target, open_span, is_locked, meets};
 ghost use Rattle.nor_array.specs.Refusals.{touches};
-ghost use Rattle.nor_array.specs.Admits.{HasItsCaller, may_come, IsArmed, first_locked, AreUncertain, ProgramLeaves, lock_byte, LockLeaves, WorkLeaves, HaltLeaves, erase_breaks, FailsWhole, PollEnds, Ends, EndsUnlocked, AsksChips, Admits};
+ghost use Rattle.nor_array.specs.Admits.{HasItsCaller, may_come, IsArmed, lowest_locked, first_locked};
+ghost use Rattle.nor_array.specs.Admits.{AreUncertain, ProgramLeaves, lock_byte, LockLeaves, WorkLeaves, HaltLeaves};
+ghost use Rattle.nor_array.specs.Admits.{erase_breaks, FailsWhole, PollEnds, Ends, EndsUnlocked, AsksChips, Admits};
 
 use crate::needs::{Chance, Reach, needs_of};
 use crate::program::{all_between, program_ends, range};
@@ -57,7 +59,7 @@ fn touches_locked(array: &PlainArray, reach: Reach, block: u32) -> bool
 
 // The lowest locked block that is touched.
 fn lowest_locked(array: &PlainArray, reach: Reach) -> Option<u32>
-    ensures { result ≡ lowest (λ b. touches array.now reach b && is_locked array.now b) 0 (length (array.now).consts.blocks) }
+    ensures { result ≡ lowest_locked array.now reach }
 {
     for block in 0..blocks(array) {
         if touches_locked(array, reach, block) {
@@ -210,7 +212,8 @@ fn ends(array: &PlainArray, op: &Op, reply: Reply, bytes: &[u8]) -> bool
 }
 
 fn ends_unlocked(array: &PlainArray, op: &Op, reply: Reply, bytes: &[u8]) -> bool
-    ensures { IsTrue result ↔ EndsUnlocked (first_locked array.now op.now) op.now array.now reply bytes.now }
+    ensures { IsTrue result
+        ↔ EndsUnlocked (first_locked array.now op.now) op.now array.now reply bytes.now }
 {
     match first_locked(array, op) {
         Some(block) => reply == Reply::Locked { block } && bytes.is_empty(),

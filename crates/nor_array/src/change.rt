@@ -1,7 +1,8 @@
 //! What an entry makes of an array.
 ghost use Rattle.std.specs.Prelude.{◌≡◌, ◌<◌, ◌≤◌, ◌+◌, length, replicate, false};
 ghost use Rattle.nor_array.specs.Array.{put as put_bytes, open_span};
-ghost use Rattle.nor_array.specs.After.{programmed, with_lock, after_done, after_opened, closed, after_erased, after_failed, power_of, names_locked, left_by, after_halted, after};
+ghost use Rattle.nor_array.specs.After.{programmed, with_lock, after_done, after_opened, closed, after_erased};
+ghost use Rattle.nor_array.specs.After.{after_failed, power_of, names_locked, left_by, after_halted, after};
 ghost use Rattle.nor_array.specs.Needs.{needs_of};
 ghost use Rattle.nor_array.specs.Refusals.{is_outside};
 ghost use Rattle.nor_array.specs.Admits.{Admits};
@@ -24,7 +25,8 @@ fn put(array: &mut PlainArray, at: u32, new: &[u8])
 // The same with so many bytes of 0xFF.
 fn put_ones(array: &mut PlainArray, at: u32, len: u32)
     requires { at + len ≤ length (array.old).bytes }
-    ensures { array.new ≡ record array.old { bytes = put_bytes (array.old).bytes at (replicate len 0xFF) } }
+    ensures { array.new
+        ≡ record array.old { bytes = put_bytes (array.old).bytes at (replicate len 0xFF) } }
 {
     bytes_edits::put_ones(&mut array.bytes, at as usize, len as usize);
 }

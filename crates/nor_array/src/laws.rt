@@ -1,5 +1,6 @@
 //! Laws of the definitions, as theorems: by them a reader sees that they say what is meant.
-ghost use Rattle.nor_array.specs.Laws.{EveryCallHasAnAnswer, RefusalsAreDecided, EntriesKeepArrays, EntriesKeepTheRest, EntriesOnlyClear, LegalByTheLast};
+ghost use Rattle.nor_array.specs.Laws.{EveryCallHasAnAnswer, RefusalsAreDecided, EntriesKeepArrays};
+ghost use Rattle.nor_array.specs.Laws.{EntriesKeepTheRest, EntriesOnlyClear, LegalByTheLast, HaltsHaveACause};
 
 /// Every call has an answer that the array admits, in every state. What the array and the call alone
 /// decide has one reply, and no bytes.
@@ -20,4 +21,10 @@ pub fn entries_change_what_they_name()
 /// with the facts.
 pub fn histories_grow_at_the_end()
     ensures { LegalByTheLast }
+{}
+
+/// A bank halts only where a cut is armed or a lane is stuck: a legal history from an array with power
+/// on and no cut armed, that arms none, on a bank with no stuck lane, has no halt.
+pub fn halts_have_a_cause()
+    ensures { HaltsHaveACause }
 {}

@@ -28,8 +28,6 @@ mod bytes;
 mod bytes_edits;
 mod change;
 mod entry;
-#[cfg(test)]
-mod halt_tests;
 mod laws;
 mod needs;
 mod program;
@@ -43,6 +41,9 @@ pub use array::{Consts, PlainArray, bytes_of, plain};
 pub use bytes::{Bytes, make_bytes};
 pub use change::apply;
 pub use entry::{Entry, Halted, Op, Reply};
-pub use laws::{calls_are_answered, entries_change_what_they_name, histories_grow_at_the_end};
+pub use laws::{
+    calls_are_answered, entries_change_what_they_name, halts_have_a_cause,
+    histories_grow_at_the_end,
+};
 pub use refuse::MAX_LEN;
 pub use state::{ArmedCut, OpenErase, Power, Target};

@@ -1,9 +1,8 @@
 //! Where a program would change bytes, and what it may leave.
-ghost use Rattle.std.specs.Prelude.{◌≡◌, ◌<◌, ◌+◌, ◌-◌, ◌↔◌, ◌&&◌, nat_le, slice_index, IsTrue};
-ghost use Rattle.std.specs.List.{list_any};
-ghost use Rattle.nor_cell.specs.Chip.{span_end};
-ghost use Rattle.nor_array.specs.Array.{range, meets};
-ghost use Rattle.nor_array.specs.Admits.{AllBetween, would_change, span_changes, program_breaks, FailsWithin, ProgramEnds};
+ghost use Rattle.std.specs.Prelude.{◌≡◌, ◌<◌, ◌+◌, ◌-◌, ◌↔◌, slice_index, IsTrue};
+ghost use Rattle.nor_array.specs.Array.{range};
+ghost use Rattle.nor_array.specs.Admits.{AllBetween, would_change, span_changes, program_breaks};
+ghost use Rattle.nor_array.specs.Admits.{breaks_here, breaks_before, FailsWithin, ProgramEnds};
 
 use crate::refuse::meets;
 use crate::{PlainArray, Reply};
@@ -76,7 +75,7 @@ fn program_breaks(array: &PlainArray, at: u32, new: &[u8]) -> bool
 
 // Whether one would that meets a part of the range.
 fn breaks_here(array: &PlainArray, at: u32, new: &[u8], from: u32, len: usize) -> bool
-    ensures { result ≡ list_any (λ span. meets from len span && span_changes (array.now).bytes at new.now span) (array.now).consts.weak }
+    ensures { result ≡ breaks_here array.now at new.now from len }
 {
     let old = &array.bytes;
     let weak = &array.consts.weak;
@@ -85,7 +84,7 @@ fn breaks_here(array: &PlainArray, at: u32, new: &[u8], from: u32, len: usize) -
 
 // Whether one would that ends before a place.
 fn breaks_before(array: &PlainArray, at: u32, new: &[u8], from: u32) -> bool
-    ensures { result ≡ list_any (λ span. nat_le (span_end span) from && span_changes (array.now).bytes at new.now span) (array.now).consts.weak }
+    ensures { result ≡ breaks_before array.now at new.now from }
 {
     let old = &array.bytes;
     let weak = &array.consts.weak;

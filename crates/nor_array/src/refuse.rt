@@ -2,7 +2,9 @@
 ghost use Rattle.std.specs.Prelude.{◌≡◌, [], ◌∷◌, ◌&&◌, length, not, None};
 ghost use Rattle.nor_cell.specs.Chip.{covered, AllBlocks};
 ghost use Rattle.nor_array.specs.Array.{span_of, is_on, lowest, meets};
-ghost use Rattle.nor_array.specs.Refusals.{is_outside, is_too_long, is_power_on, kept_halt, owns, has_nothing, touches, touched_open, first_busy, first_open, while_open, when, first_some, refusal};
+ghost use Rattle.nor_array.specs.Refusals.{is_outside, is_too_long, is_power_on, kept_halt, owns, has_nothing};
+ghost use Rattle.nor_array.specs.Refusals.{touches, touched_open, first_busy, first_open, while_open};
+ghost use Rattle.nor_array.specs.Refusals.{when, first_some, refusal};
 ghost use Rattle.nor_array.specs.declared.entry.Reply.TheVariants.{NoLocks, NoChipErase};
 
 use crate::needs::{CallNeeds, Reach, needs_of};

@@ -2,6 +2,8 @@ pub mod Anding
 pub mod Asking
 pub mod BankBytes
 pub mod Blocks
+pub mod Called
+pub mod Changing
 pub mod Copying
 pub mod Keeping
 pub mod Known
@@ -16,7 +18,6 @@ pub mod Served
 pub mod Standing
 pub mod Starting
 pub mod Storing
-pub mod Tables
 pub mod Using
 pub mod WordByWord
 pub mod Wording

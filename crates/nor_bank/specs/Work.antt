@@ -1,12 +1,17 @@
 -- What a call asks of the bus, and what it leaves as it was.
-use Rattle.std.specs.Prelude.{◌≡◌, ◌≢◌, ◌<◌, ◌≤◌, ◌+◌, ℕ, List, [], ◌∷◌, length, nat_lt, true, false, Option, Some, None}
-use Rattle.std.specs.Option.{option_or, option_map}
+use Rattle.std.specs.Prelude.{◌≡◌, ◌≢◌, ◌<◌, ◌≤◌, ◌+◌, ◌*◌, ◌/◌, ℕ, List, [], ◌∷◌, length, nat_lt, nat_le, true, false, Option, Some, None}
 use Rattle.nor_bus.specs.Bus.{BusState, more}
 use Rattle.nor_bus.specs.declared.bus.Armed.{Armed}
 use Rattle.nor_bus.specs.Cycles.{BusFails, KeepsLanes}
-use Rattle.nor_bus.specs.Driven.{AllLanes, Went, IsDue}
+use Rattle.nor_bus.specs.Driven.{AllLanes, Counted, IsDue}
 use Rattle.nor_array.specs.Array.{ArrayState, is_locked}
+use Rattle.nor_array.specs.Admits.{first_locked, would_change}
+use Rattle.nor_array.specs.Needs.{needs_of}
 use Rattle.nor_array.specs.Refusals.{when, first_some}
+use Rattle.nor_array.specs.declared.needs.Reach.{Reach}
+use Rattle.nor_array.specs.declared.needs.Reach.TheVariants.{Nowhere, Range, Block, Everywhere}
+use Rattle.nor_array.specs.declared.entry.Op.{Op}
+use Rattle.nor_array.specs.declared.entry.Op.TheVariants.{Read, Program, EraseAll, Poll, Arm, PowerOn}
 use Rattle.nor_array.specs.declared.entry.Halted.{Halted as HaltCause}
 use Rattle.nor_array.specs.declared.entry.Halted.TheVariants.{Off, Stuck}
 use Rattle.nor_array.specs.declared.entry.Reply.{Reply}
@@ -15,10 +20,11 @@ use Rattle.nor_cell.specs.declared.device.Work.TheVariants.{Word}
 use Rattle.nor_query.specs.Derived.{limit_of}
 use Rattle.nor_poll.specs.Word.{word_most}
 use Rattle.nor_poll.specs.declared.lanes.Halt.{Halt}
-use Rattle.nor_bank.specs.Programs.{CanProgram, ProgramsTo, Unchanging, LeavesBy, IsSound}
+use Rattle.nor_bank.specs.Programs.{CanProgram, ProgramsTo, BreaksOff, changes_at, words_passing, LeavesBy, IsSound}
 use Rattle.nor_bank.specs.Ranges.{words_met}
 use Rattle.nor_bank.specs.Stands.{Stands}
-use Rattle.nor_bank.specs.State.{BankState, size_of}
+use Rattle.nor_bank.specs.State.{BankState, size_of, blocks_of, word_bytes, byte_of}
+use Rattle.nor_probe.specs.declared.probing.Found.{Found}
 
 -- At most so many cycles were asked for, the one that failed among them. Where power went, it was by an armed cut that came
 -- within them.
@@ -39,13 +45,26 @@ pub record UsesBus (old new : BusState) : Type 0 where
   pub failed : more 0 old.failed ≤ new.failed
   pub armed : new.power ≡ true → NoFurther old.armed new.armed
 
+-- ---- what a bank answers without asking its chips
+
 -- a range that the bank doesn't have, or that is longer than a call may be
 abbrev pub range_refusal : (size at len : ℕ) → Option Reply
 range_refusal size at len = first_some (when (nat_lt size (at + len)) OutOfRange ∷ when (nat_lt 4096 len) TooLong ∷ [])
 
--- what the bank answers to a range without asking the chips, with nothing under erase
-abbrev pub refusal_now : BankState → (at len : ℕ) → Option Reply
-refusal_now b at len = option_or (range_refusal (size_of b.found) at len) (option_map Halted b.halted)
+-- what a call is refused with by what it touches alone
+abbrev pub reach_refusal : Found → Reach → Option Reply
+reach_refusal f Nowhere = None
+reach_refusal f (Range at len) = range_refusal (size_of f) at len
+reach_refusal f (Block k) = when (nat_le (length (blocks_of f)) k) OutOfRange
+reach_refusal f Everywhere = None
+
+abbrev pub refusal_of : BankState → Op → Option Reply
+refusal_of b op = reach_refusal b.found (needs_of op).reach
+
+-- Neither this refuses a call nor a halt that is kept.
+pub record Proceeds (op : Op) (b : BankState) : Type 0 where
+  pub unrefused : refusal_of b op ≡ None
+  pub running : b.halted ≡ None
 
 -- the bank with its bus as it is now
 abbrev pub with_bus : BankState → BusState → BankState
@@ -82,7 +101,7 @@ pub record AnswersKept (cause : HaltCause) (old new : BankState) (reply : Reply)
   pub rest : new ≡ with_bus old new.bus
   pub stays : Stays (Some cause) old.bus new.bus
 
--- What may be answered where the range is the bank's and no halt is kept: a loss of power tells the number of the armed cut.
+-- What may be answered otherwise, with nothing under erase: a loss of power tells the number of the armed cut.
 abbrev pub ReadAnswers : (after : ℕ) → Reply → Type 0
 ReadAnswers after Done = Unit {0}
 ReadAnswers after (Halted (Off n)) = n ≡ after
@@ -96,6 +115,11 @@ ProgramAnswers lanes after at len (Halted (Off n)) = n ≡ after
 ProgramAnswers lanes after at len (Halted (Stuck k)) = k < lanes
 ProgramAnswers lanes after at len _ = ⊥
 
+abbrev pub MayAnswer : Op → BankState → Reply → Type 0
+MayAnswer (Read at len) b reply = ReadAnswers b.after reply
+MayAnswer (Program at new) b reply = ProgramAnswers b.found.geometry.lanes b.after at (length new) reply
+MayAnswer _ b reply = Unit {0}
+
 -- What programs are built for: banks of which no chip has a weak place.
 abbrev pub IsBuilt : BankState → Type 0
 IsBuilt b = AllLanes IsSound b.bus
@@ -108,6 +132,17 @@ pub record CanCall (b : BankState) (a : ArrayState) : Type 0 where
   pub built : IsBuilt b
   pub unlocked : (n : ℕ) → is_locked a n ≡ false
 
+abbrev pub IsBuiltFor : Op → BankState → Type 0
+IsBuiltFor (Program at new) b = IsBuilt b
+IsBuiltFor _ b = Unit {0}
+
+-- The bank stands for the array, and the call is built for both today.
+pub record CanMake (op : Op) (b : BankState) (a : ArrayState) : Type 0 where
+  pub stands : Stands b a
+  pub closed : b.erase ≡ None
+  pub built : IsBuiltFor op b
+  pub unlocked : first_locked a op ≡ None
+
 -- how often a word may be read working
 abbrev pub word_limit : BankState → ℕ
 word_limit b = limit_of b.found.query.times Word
@@ -115,6 +150,25 @@ word_limit b = limit_of b.found.query.times Word
 -- how many cycles a word asks for at most: one that reads it, and those of its program
 abbrev pub word_cycles : BankState → ℕ
 word_cycles b = word_most b.found.query.set (word_limit b) + 1
+
+-- how many bus words a range meets
+abbrev pub words_in : BankState → (at len : ℕ) → ℕ
+words_in b at len = words_met at len (word_bytes b.found)
+
+-- how many cycles a call asks for at most, a failed one among them
+abbrev pub most_cycles : Op → BankState → ℕ
+most_cycles (Read at len) b = 60 + words_in b at len
+most_cycles (Program at new) b = 80 + words_in b at (length new) * (10 + 2 * word_limit b)
+most_cycles EraseAll b = 80 + 8 * length (blocks_of b.found)
+most_cycles Poll b = 12
+most_cycles (Arm cut mask) b = 1
+most_cycles PowerOn b = 0
+most_cycles _ b = 80
+
+-- how many bus words of a range would lose a bit
+abbrev pub words_changed : BankState → ArrayState → (at : ℕ) (new : List ℕ) → ℕ
+words_changed b a at new =
+    words_passing (word_bytes b.found) (would_change a.bytes at new) (at / word_bytes b.found) (words_in b at (length new))
 
 -- ---- programs of a bank whose chips can be programmed
 
@@ -124,13 +178,21 @@ CanProgramIn width b at new = CanProgram width b.found.query.set b.found.geometr
 -- all of the range was programmed
 abbrev pub ProgramsRange : (width : ℕ) (old : BankState) (at : ℕ) (new : List ℕ) → BankState → Type 0
 ProgramsRange width old at new now =
-    CanProgramIn width old at new → AllLanes IsSound old.bus → ProgramsTo old.found.geometry.device at new (at + length new) old.bus now.bus
+    CanProgramIn width old at new → ProgramsTo old.found.geometry.device at new (at + length new) old.bus now.bus
 
--- and where no byte would change, each bus word was only read
-abbrev pub SkipsRange : (width : ℕ) (old : BankState) (at : ℕ) (new : List ℕ) → BankState → Type 0
-SkipsRange width old at new now =
-    CanProgramIn width old at new → AllLanes IsSound old.bus → Unchanging old.found.geometry.device at new old.bus
-    → Went (words_met at (length new) width) (words_met at (length new) width) old.bus now.bus
+-- or some lanes broke off in bus word u
+abbrev pub BreaksRange : (width : ℕ) (old : BankState) (at : ℕ) (new : List ℕ) → (u lanes : ℕ) → BankState → Type 0
+BreaksRange width old at new u lanes now =
+    CanProgramIn width old at new
+    → BreaksOff old.found.geometry lanes at new (u * width) (u * width + width) old.bus now.bus
+
+-- and each bus word was read, and those that would change were programmed
+abbrev pub CostsRange : (width : ℕ) (old : BankState) (at : ℕ) (new : List ℕ) → BankState → Type 0
+CostsRange width old at new now =
+    let words = words_met at (length new) width in
+    let changed = words_passing width (changes_at (byte_of old) at new) (at / width) words in
+    CanProgramIn width old at new
+    → Counted words (words + changed * word_most old.found.query.set (word_limit old)) old.bus now.bus
 
 -- no lane breaks off where none is weak
 abbrev pub NotBroken : (width : ℕ) (old : BankState) (at : ℕ) (new : List ℕ) → Type 0
@@ -139,4 +201,4 @@ NotBroken width old at new = CanProgramIn width old at new → AllLanes IsSound 
 -- it was given up
 abbrev pub LeavesRange : (width : ℕ) (old : BankState) (at : ℕ) (new : List ℕ) → Halt → BankState → Type 0
 LeavesRange width old at new halt now =
-    CanProgramIn width old at new → AllLanes IsSound old.bus → LeavesBy old.found.geometry.device at new at halt old.bus now.bus
+    CanProgramIn width old at new → LeavesBy old.found.geometry.device at new at halt old.bus now.bus

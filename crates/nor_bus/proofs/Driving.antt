@@ -1,5 +1,5 @@
 -- Cycles of a bus whose geometry is known.
-use Rattle.std.proofs.Common.{not, false, Bool, List, [], ◌∷◌, ◌/◌, length, IsTrue, true, ◌==◌, ◌&&◌, ◌||◌, ◌⊎◌, inl, inr, ◌≡◌, ◌<◌, ◌≤◌, ◌+◌, ◌*◌, ℕ, zero, suc, replicate, slice_index, refl, sym, ap, subst, ◌∙◌, arith, Option, Some, None}
+use Rattle.std.proofs.Common.{not, false, Bool, List, [], ◌∷◌, ◌/◌, length, IsTrue, true, ◌==◌, ◌&&◌, ◌||◌, ◌⊎◌, inl, inr, ◌≡◌, ◌<◌, ◌≤◌, ◌+◌, ◌*◌, ◌%◌, ℕ, zero, suc, replicate, slice_index, refl, sym, ap, subst, ◌∙◌, arith, Option, Some, None}
 use Rattle.std.proofs.Math.Nat.{mod-eq_of_lt}
 use Rattle.nor_cell.specs.Bits.{unit_len}
 use Rattle.nor_cell.specs.Chip.{ChipState, Part, units}
@@ -47,6 +47,14 @@ bank_kept width device a b h bank =
 -- A geometry stays the bus's own.
 pub own_kept : (width : ℕ) (g : Geometry) (a b : BusState) → KeepsLanes a b → IsOwn width g a → IsOwn width g b
 own_kept width g a b h own = record { bank = bank_kept width g.device a b h own.bank; count = h.count ∙ own.count }
+
+-- ---- what a lane gets
+
+-- the code is the low byte of what each lane gets
+pub spread_low : (device : Device) (n : ℕ) → n < 256 → spread (unit_len device) n % 256 ≡ n
+spread_low X8 n h = omega arith
+spread_low X16 n h = omega arith
+spread_low X16Byte n h = omega arith
 
 -- ---- cycles, and then some more
 

@@ -49,7 +49,7 @@ lanes_one device f (s ∷ chips) (b ∷ word) one devices size small each =
     let tail : word ≡ side_by_side f chips = lanes_one device f chips word one (λ c below. devices (suc c) (omega arith)) (omega arith) (λ p. small (suc p)) (λ c below. each (suc c) (omega arith)) in
     ap (λ (l : List ℕ). b ∷ l) tail ∙ ap (λ (l : List ℕ). l ++ side_by_side f chips) (sym head)
 
-later_lane : (a b : ℕ) (word : List ℕ) (c : ℕ) → slice_index (a ∷ b ∷ word) (2 * suc c) + 256 * slice_index (a ∷ b ∷ word) (2 * suc c + 1) ≡ slice_index word (2 * c) + 256 * slice_index word (2 * c + 1)
+pub later_lane : (a b : ℕ) (word : List ℕ) (c : ℕ) → slice_index (a ∷ b ∷ word) (2 * suc c) + 256 * slice_index (a ∷ b ∷ word) (2 * suc c + 1) ≡ slice_index word (2 * c) + 256 * slice_index word (2 * c + 1)
 later_lane a b word c =
     let low : 2 * suc c ≡ suc (suc (2 * c)) = omega arith in
     let high : 2 * suc c + 1 ≡ suc (suc (2 * c + 1)) = omega arith in

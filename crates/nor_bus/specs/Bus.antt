@@ -31,8 +31,8 @@ no_chip = record {
   held = NotHeld;
   flags = record { erase = false; program = false; locked = false };
   fault = NoFault;
-  t6 = false;
-  t2 = false;
+  toggle_6 = false;
+  toggle_2 = false;
 }
 
 abbrev pub lanes_of : BusState → ℕ

@@ -2,7 +2,7 @@
 use Rattle.std.specs.Prelude.{◌++◌, ℕ, List, [], ◌∷◌}
 use Rattle.nor_cell.specs.Bits.{unit_bytes}
 use Rattle.nor_cell.specs.Chip.{ChipState}
-use Rattle.nor_cell.specs.Intel.{query_at}
+use Rattle.nor_cell.specs.Shown.{query_at}
 
 -- the word in which each chip says its number
 abbrev pub side_by_side : (ChipState → ℕ) → List ChipState → List ℕ

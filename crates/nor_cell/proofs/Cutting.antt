@@ -3,8 +3,8 @@ use Rattle.std.proofs.Common.{◌≡◌, ◌<◌, ◌≤◌, ℕ, refl, sym, sub
 use Rattle.std.proofs.lemmas.Bool.Decides.{nat_tests}
 use Rattle.std.proofs.lemmas.Nat.{and_le_r}
 use Rattle.nor_cell.specs.Bits.{IsBetween, ChangesWithin, AreBytes}
-use Rattle.nor_cell.specs.Chip.{ChipState, span_end, is_within}
-use Rattle.nor_cell.specs.Power.{Cuts, holds_at, programs_at, datum_at, is_erasing_at}
+use Rattle.nor_cell.specs.Chip.{ChipState, span_end, is_within, holds_at}
+use Rattle.nor_cell.specs.Power.{Cuts, programs_at, datum_at, is_erasing_at}
 use Rattle.nor_cell.specs.Simulated.{CutsJob, CutsHeld, CutsBy}
 use Rattle.nor_cell.specs.Steps.{Keeps}
 use Rattle.nor_cell.specs.declared.device.Span.{Span}

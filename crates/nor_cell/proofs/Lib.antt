@@ -1,4 +1,4 @@
-pub mod Resting
+pub mod Between
 pub mod Breaking
 pub mod Changing
 pub mod Cutting
@@ -6,3 +6,4 @@ pub mod Keeping
 pub mod Loading
 pub mod Locking
 pub mod Spans
+pub mod Logic

@@ -3,7 +3,7 @@ use Rattle.std.proofs.Common.{◌≡◌, ◌+◌, ◌-◌, ◌*◌, ◌/◌, ◌
 use Rattle.std.proofs.lemmas.Bool.Decides.{nat_tests}
 use Rattle.nor_cell.specs.Bits.{unit_len, unit_bytes}
 use Rattle.nor_cell.specs.Chip.{ChipState, BufferData, BufferConfirm, Idle, NoFault, block_of, place}
-use Rattle.nor_cell.specs.Intel.{room, first_of, taken}
+use Rattle.nor_cell.specs.Loads.{room, first_of, taken}
 use Rattle.nor_cell.specs.Machine.{takes, loaded, step_of, job_of, fault_of, machine_of, JobFits}
 use Rattle.nor_cell.specs.declared.cells.Cells.{Cells}
 use Rattle.nor_cell.specs.declared.device.Device.{Device}
@@ -17,7 +17,7 @@ use Rattle.nor_cell.specs.declared.state.Failure.{Failure}
 use Rattle.nor_cell.specs.declared.state.Failure.TheVariants.{None as NoFailure, ProgramTime, EraseTime, Abort}
 use Rattle.nor_cell.specs.declared.state.RunningJob.{RunningJob}
 use Rattle.nor_cell.specs.declared.state.RunningJob.TheVariants.{Idle as NoneRuns, Program as ProgramRuns, Erase as EraseRuns, Pausing as PausingRuns}
-use Rattle.nor_cell.proofs.Spans.{both_pass, same_number}
+use Rattle.nor_cell.proofs.Logic.{both_pass, same_number}
 
 -- a later unit of a load is next where it lies behind the one before, in the load's page and block
 pub takes_later : (s : ChipState) (b missing first : ℕ) (load : List ℕ) (u : ℕ) → (length load == 0) ≡ false → block_of s u ≡ b → place s.part u ≡ place s.part first + length load →
@@ -84,16 +84,16 @@ load_some d v load = omega (arith, length-append load (unit_bytes d v), length-u
 -- ---- the state with one more unit
 
 -- a machine at rest whose load and step change
-pub step_changes : (set : Set) (cells : Cells) (mode : ShownMode) (step next : NextStep) (job : RunningJob) (held : HeldErase) (flags : StatusFlags) (fault : Failure) (t6 t2 : Bool) (load longer : List ℕ) →
+pub step_changes : (set : Set) (cells : Cells) (mode : ShownMode) (step next : NextStep) (job : RunningJob) (held : HeldErase) (flags : StatusFlags) (fault : Failure) (toggle_6 toggle_2 : Bool) (load longer : List ℕ) →
     job_of job load ≡ Idle → fault_of fault load ≡ NoFault →
-    machine_of set cells mode next job held flags fault t6 t2 longer ≡ record (machine_of set cells mode step job held flags fault t6 t2 load) { step = step_of next longer }
-step_changes set cells mode step next NoneRuns held flags NoFailure t6 t2 load longer h k = refl
-step_changes set cells mode step next NoneRuns held flags (ProgramTime at) t6 t2 load longer h k = cc
-step_changes set cells mode step next NoneRuns held flags (EraseTime target) t6 t2 load longer h k = cc
-step_changes set cells mode step next NoneRuns held flags Abort t6 t2 load longer h k = cc
-step_changes set cells mode step next (ProgramRuns at left) held flags fault t6 t2 load longer h k = cc
-step_changes set cells mode step next (EraseRuns target left) held flags fault t6 t2 load longer h k = cc
-step_changes set cells mode step next (PausingRuns b wait left) held flags fault t6 t2 load longer h k = cc
+    machine_of set cells mode next job held flags fault toggle_6 toggle_2 longer ≡ record (machine_of set cells mode step job held flags fault toggle_6 toggle_2 load) { step = step_of next longer }
+step_changes set cells mode step next NoneRuns held flags NoFailure toggle_6 toggle_2 load longer h k = refl
+step_changes set cells mode step next NoneRuns held flags (ProgramTime at) toggle_6 toggle_2 load longer h k = cc
+step_changes set cells mode step next NoneRuns held flags (EraseTime target) toggle_6 toggle_2 load longer h k = cc
+step_changes set cells mode step next NoneRuns held flags Abort toggle_6 toggle_2 load longer h k = cc
+step_changes set cells mode step next (ProgramRuns at left) held flags fault toggle_6 toggle_2 load longer h k = cc
+step_changes set cells mode step next (EraseRuns target left) held flags fault toggle_6 toggle_2 load longer h k = cc
+step_changes set cells mode step next (PausingRuns b wait left) held flags fault toggle_6 toggle_2 load longer h k = cc
 
 taken_some : (b missing first : ℕ) (bytes : List ℕ) (s : ChipState) → 0 < missing → taken b missing first bytes s ≡ record s { step = BufferData b missing first bytes }
 taken_some b zero first bytes s some = absurd (omega arith)

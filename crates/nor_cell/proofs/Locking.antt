@@ -13,7 +13,7 @@ use Rattle.nor_cell.specs.declared.cells.Cells.{Cells}
 use Rattle.nor_cell.specs.declared.device.Set.TheVariants.{Amd}
 use Rattle.nor_cell.specs.declared.state.ShownMode.{ShownMode}
 use Rattle.nor_cell.specs.declared.state.ShownMode.TheVariants.{Array as ArrayShown, Query as QueryShown, Ident as IdentShown, Status as StatusShown, Locks as LocksShown}
-use Rattle.nor_cell.proofs.Spans.{same_number}
+use Rattle.nor_cell.proofs.Logic.{same_number}
 
 pub open_locks : (n : ℕ) → is_any_set (replicate n false) ≡ false
 open_locks zero = refl
@@ -48,14 +48,6 @@ shown_offered StatusShown cells h fits = cc
 shown_offered LocksShown cells h fits = fits
 
 -- ---- locks that are given, or open ones
-
-pub open_if_none : (locks : List Bool) (n : ℕ) → (length locks == 0) ≡ true → given_or_open locks n ≡ replicate n false
-open_if_none [] n h = refl
-open_if_none (x ∷ locks) n h = absurd (omega (arith, same_number (length (x ∷ locks)) 0 h))
-
-pub given_if_some : (locks : List Bool) (n : ℕ) → (length locks == 0) ≡ false → given_or_open locks n ≡ locks
-given_if_some [] n h = cc
-given_if_some (x ∷ locks) n h = refl
 
 pub given_offered : (table : List ℕ) (locks : List Bool) (n : ℕ) → AreOffered table locks → AreOffered table (given_or_open locks n)
 given_offered table [] n h = open_locks_offered table n

@@ -1,24 +1,14 @@
 -- Blocks that follow each other.
-use Rattle.std.proofs.Common.{◌≡◌, ◌+◌, ◌<◌, ◌≤◌, ℕ, zero, suc, refl, arith, Bool, true, false, ◌&&◌, ◌==◌, List, [], ◌∷◌, length, get_or}
+use Rattle.std.proofs.Common.{◌≡◌, ◌+◌, ◌<◌, ◌≤◌, ℕ, zero, suc, arith, true, ◌==◌, List, [], ◌∷◌, length, get_or}
 use Rattle.std.specs.Prelude.{IsTrue}
 use Rattle.std.specs.List.Sorted.{IsNonDecreasingBy}
-use Rattle.std.proofs.lemmas.Bool.Decides.{nat_tests}
+use Rattle.nor_cell.proofs.Logic.{both_pass, same_number}
 use Rattle.nor_cell.specs.Chip.{span_end, has_blocks, blocks_end}
 use Rattle.nor_cell.specs.Ranges.{follow_to, are_blocks}
 use Rattle.nor_cell.specs.declared.device.Span.{Span}
 
--- both tests of a conjunction pass
-pub both_pass : (a b : Bool) → (a && b) ≡ true → (a ≡ true) × (b ≡ true)
-both_pass true true h = (refl, refl)
-both_pass true false h = cc
-both_pass false b h = cc
-
--- a test of two numbers
-pub same_number : (a b : ℕ) → (a == b) ≡ true → a ≡ b
-same_number a b h = grind (arith, nat_tests)
-
 -- the first span begins where it should, and the others follow
-first_follows : (end from : ℕ) (span : Span) (spans : List Span) → follow_to end from (span ∷ spans) ≡ true →
+pub first_follows : (end from : ℕ) (span : Span) (spans : List Span) → follow_to end from (span ∷ spans) ≡ true →
     (span.from ≡ from) × (follow_to end (from + span.len) spans ≡ true)
 first_follows end from span spans h =
     let b = both_pass (span.from == from) (follow_to end (from + span.len) spans) h in (same_number span.from from b.0, b.1)

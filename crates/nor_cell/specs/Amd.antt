@@ -4,9 +4,10 @@ use Rattle.nor_cell.specs.Bits.{unit_len, unit_bytes, unit_at}
 use Rattle.nor_cell.specs.Table.{has_locks, chip_erase_of, left_at_start}
 use Rattle.nor_cell.specs.declared.device.Work.{Work}
 use Rattle.nor_cell.specs.declared.device.Work.TheVariants.{Word, Buffer, Block, Chip}
-use Rattle.nor_cell.specs.Chip.{ChipState, Part, Mode, Array, Query, Ident, Status, Locks, Step, Rest, ProgramNext, EraseNext, LockNext, BufferCount, BufferData, BufferConfirm, U1, U2, E1, E2, E3, LeaveNext, Job, Idle, Program, Erase, OneBlock, AllBlocks, Pausing, Fault, NoFault, TimeFault, AbortFault, block_of, has_blocks, place, is_locked, is_any_set, is_held, runs, counted}
-use Rattle.nor_cell.specs.Look.{look, looked, LooksTo, suspended, resumed}
-use Rattle.nor_cell.specs.Intel.{query_at, bit_if, in_held, held_off, set_lock, room, is_next, first_of, taken}
+use Rattle.nor_cell.specs.Chip.{ChipState, Part, Mode, Array, Query, Ident, Status, Locks, Step, Rest, ProgramNext, EraseNext, LockNext, BufferCount, BufferData, BufferConfirm, Unlock1, Unlock2, Erase1, Erase2, Erase3, LeaveNext, Job, Idle, Program, Erase, OneBlock, AllBlocks, Pausing, Fault, NoFault, TimeFault, AbortFault, block_of, has_blocks, place, is_locked, is_any_set, is_held, runs, counted, holds_at, set_lock}
+use Rattle.nor_cell.specs.Look.{look, looked, LooksTo, suspended, resumed, held_off}
+use Rattle.nor_cell.specs.Shown.{query_at, bit_if}
+use Rattle.nor_cell.specs.Loads.{room, is_next, first_of, taken}
 use Rattle.nor_cell.specs.declared.device.Device.{Device}
 use Rattle.nor_cell.specs.declared.device.Device.TheVariants.{X8, X16, X16Byte}
 use Rattle.nor_cell.specs.declared.device.Set.TheVariants.{Amd}
@@ -15,7 +16,7 @@ use Rattle.nor_cell.specs.declared.device.Set.TheVariants.{Amd}
 
 -- the unit lies in the held block, and the array is shown
 abbrev pub shows_held : Mode → ChipState → ℕ → Bool
-shows_held Array s u = in_held s.held s.part (place s.part u)
+shows_held Array s u = holds_at s.held s.part.blocks (place s.part u)
 shows_held Query s u = false
 shows_held Ident s u = false
 shows_held Status s u = false
@@ -49,7 +50,7 @@ abbrev pub flipped : Bool → Bool → Bool
 flipped toggles bit = if toggles then not bit else bit
 
 abbrev pub toggled : ℕ → ChipState → ChipState
-toggled u s = record s { t6 = flipped (toggles_6 s) s.t6; t2 = flipped (toggles_2 s u) s.t2 }
+toggled u s = record s { toggle_6 = flipped (toggles_6 s) s.toggle_6; toggle_2 = flipped (toggles_2 s u) s.toggle_2 }
 
 -- ---- what a read answers
 
@@ -60,15 +61,15 @@ last_low part bytes = slice_index bytes (length bytes - unit_len part.device)
 -- a job that shows working
 abbrev pub working : Job → ChipState → ℕ
 working Idle s = 0
-working (Program at bytes left) s = bit_if 0x80 (nat_lt (last_low s.part bytes) 0x80) + bit_if 0x40 s.t6
-working (Erase target left) s = 0x08 + bit_if 0x40 s.t6 + bit_if 0x04 s.t2
-working (Pausing b wait left) s = 0x08 + bit_if 0x40 s.t6 + bit_if 0x04 s.t2
+working (Program at bytes left) s = bit_if 0x80 (nat_lt (last_low s.part bytes) 0x80) + bit_if 0x40 s.toggle_6
+working (Erase target left) s = 0x08 + bit_if 0x40 s.toggle_6 + bit_if 0x04 s.toggle_2
+working (Pausing b wait left) s = 0x08 + bit_if 0x40 s.toggle_6 + bit_if 0x04 s.toggle_2
 
 -- inside a held block a status stands in place of the array
 abbrev pub array_at : ChipState → ℕ → ℕ
 array_at s u =
-    if in_held s.held s.part (place s.part u)
-    then 0x80 + bit_if 0x40 s.t6 + bit_if 0x04 s.t2
+    if holds_at s.held s.part.blocks (place s.part u)
+    then 0x80 + bit_if 0x40 s.toggle_6 + bit_if 0x04 s.toggle_2
     else unit_at s.part.device s.cells u
 
 abbrev pub mode_at : Mode → ChipState → ℕ → ℕ
@@ -82,7 +83,7 @@ mode_at Status s u = 0
 abbrev pub fault_at : Fault → ChipState → ℕ → ℕ
 fault_at NoFault s u = mode_at s.mode s u
 fault_at (TimeFault job) s u = working job s + 0x20
-fault_at AbortFault s u = 0x02 + bit_if 0x40 s.t6
+fault_at AbortFault s u = 0x02 + bit_if 0x40 s.toggle_6
 
 abbrev pub shown : ChipState → ℕ → ℕ
 shown s u = if runs s.job then working s.job s else fault_at s.fault s u
@@ -96,20 +97,20 @@ pub record AmdReads (old : ChipState) (u answer : ℕ) (new : ChipState) : Type 
 -- ---- what a write does
 
 -- the addresses of the command cycles
-abbrev pub a1 : Device → ℕ
-a1 X8 = 0x555
-a1 X16 = 0x555
-a1 X16Byte = 0xAAA
+abbrev pub first_address : Device → ℕ
+first_address X8 = 0x555
+first_address X16 = 0x555
+first_address X16Byte = 0xAAA
 
-abbrev pub a2 : Device → ℕ
-a2 X8 = 0x2AA
-a2 X16 = 0x2AA
-a2 X16Byte = 0x555
+abbrev pub second_address : Device → ℕ
+second_address X8 = 0x2AA
+second_address X16 = 0x2AA
+second_address X16Byte = 0x555
 
-abbrev pub aq : Device → ℕ
-aq X8 = 0x55
-aq X16 = 0x55
-aq X16Byte = 0xAA
+abbrev pub query_address : Device → ℕ
+query_address X8 = 0x55
+query_address X16 = 0x55
+query_address X16Byte = 0xAA
 
 abbrev pub at_rest : ChipState → ChipState
 at_rest s = record s { step = Rest }
@@ -141,22 +142,22 @@ begin_erase_all s =
 abbrev pub array_steps : Step → ChipState → ℕ → ℕ → ℕ → ChipState
 array_steps Rest s u v code =
     let takes_jobs = has_blocks s.part.blocks in
-    if code == 0xAA && takes_jobs && u == a1 s.part.device then goes_to U1 s
-    else if code == 0x98 && u == aq s.part.device then record s { mode = Query }
+    if code == 0xAA && takes_jobs && u == first_address s.part.device then goes_to Unlock1 s
+    else if code == 0x98 && u == query_address s.part.device then record s { mode = Query }
     else if code == 0x30 && takes_jobs then resumed s
     else s
-array_steps U1 s u v code = if code == 0x55 && u == a2 s.part.device then goes_to U2 s else at_rest s
-array_steps U2 s u v code =
-    if code == 0xA0 && u == a1 s.part.device then goes_to ProgramNext s
-    else if code == 0x80 && u == a1 s.part.device && not (is_held s.held) then goes_to E1 s
+array_steps Unlock1 s u v code = if code == 0x55 && u == second_address s.part.device then goes_to Unlock2 s else at_rest s
+array_steps Unlock2 s u v code =
+    if code == 0xA0 && u == first_address s.part.device then goes_to ProgramNext s
+    else if code == 0x80 && u == first_address s.part.device && not (is_held s.held) then goes_to Erase1 s
     else if code == 0x25 && not (room s == 0) then goes_to (BufferCount (block_of s u)) s
-    else if code == 0xE0 && u == a1 s.part.device && has_locks s.part.table then record s { mode = Locks; step = Rest }
+    else if code == 0xE0 && u == first_address s.part.device && has_locks s.part.table then record s { mode = Locks; step = Rest }
     else at_rest s
-array_steps E1 s u v code = if code == 0xAA && u == a1 s.part.device then goes_to E2 s else at_rest s
-array_steps E2 s u v code = if code == 0x55 && u == a2 s.part.device then goes_to E3 s else at_rest s
-array_steps E3 s u v code =
+array_steps Erase1 s u v code = if code == 0xAA && u == first_address s.part.device then goes_to Erase2 s else at_rest s
+array_steps Erase2 s u v code = if code == 0x55 && u == second_address s.part.device then goes_to Erase3 s else at_rest s
+array_steps Erase3 s u v code =
     if code == 0x30 then begin_erase (block_of s u) s
-    else if code == 0x10 && u == a1 s.part.device && chip_erase_of Amd s.part.table then begin_erase_all s
+    else if code == 0x10 && u == first_address s.part.device && chip_erase_of Amd s.part.table then begin_erase_all s
     else at_rest s
 array_steps ProgramNext s u v code = begin_program Word u (unit_bytes s.part.device v) s
 array_steps (BufferCount b) s u v code =
@@ -198,10 +199,10 @@ mode_steps Status s u v = s
 
 -- In fault Abort the two unlock cycles and 0xF0 clear it, and nothing else does.
 abbrev pub abort_steps : Step → ChipState → ℕ → ℕ → ChipState
-abort_steps Rest s u code = if code == 0xAA && u == a1 s.part.device then goes_to U1 s else at_rest s
-abort_steps U1 s u code = if code == 0x55 && u == a2 s.part.device then goes_to U2 s else at_rest s
-abort_steps U2 s u code =
-    if code == 0xF0 && u == a1 s.part.device then record s { step = Rest; mode = Array; fault = NoFault } else at_rest s
+abort_steps Rest s u code = if code == 0xAA && u == first_address s.part.device then goes_to Unlock1 s else at_rest s
+abort_steps Unlock1 s u code = if code == 0x55 && u == second_address s.part.device then goes_to Unlock2 s else at_rest s
+abort_steps Unlock2 s u code =
+    if code == 0xF0 && u == first_address s.part.device then record s { step = Rest; mode = Array; fault = NoFault } else at_rest s
 abort_steps _ s u code = at_rest s
 
 abbrev pub fault_steps : Fault → ChipState → ℕ → ℕ → ChipState

@@ -47,8 +47,8 @@ chip_a cells = record {
   held = NotHeld;
   flags = record { erase = false; program = false; locked = false };
   fault = NoFault;
-  t6 = false;
-  t2 = false;
+  toggle_6 = false;
+  toggle_2 = false;
 }
 
 abbrev pub all_written : List (ℕ × ℕ) → ChipState → ChipState

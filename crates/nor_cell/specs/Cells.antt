@@ -33,8 +33,8 @@ chip_of set cells = record {
   held = NotHeld;
   flags = record { erase = false; program = false; locked = false };
   fault = NoFault;
-  t6 = false;
-  t2 = false;
+  toggle_6 = false;
+  toggle_2 = false;
 }
 
 -- What the chip is and keeps is what its cells say.

@@ -1,5 +1,5 @@
 -- The state of a chip: what it is, what it holds, and where it stands in its commands.
-use Rattle.std.specs.Prelude.{◌+◌, ◌-◌, ◌*◌, ◌/◌, ◌^◌, min, ℕ, List, [], ◌∷◌, length, slice_index_or, Bool, true, false, ◌==◌, ◌&&◌, nat_lt, nat_le}
+use Rattle.std.specs.Prelude.{◌+◌, ◌-◌, ◌*◌, ◌/◌, ◌^◌, min, ℕ, List, [], ◌∷◌, length, slice_index_or, slice_set, Bool, true, false, ◌==◌, ◌&&◌, nat_lt, nat_le}
 use Rattle.std.specs.List.{position_or_len, list_any}
 use Rattle.nor_cell.specs.Bits.{unit_len}
 use Rattle.nor_cell.specs.declared.device.Device.{Device}
@@ -24,11 +24,11 @@ pub data Step : Type 0 where
   BufferData : (block missing first : ℕ) (bytes : List ℕ) → Step
   BufferConfirm : (first : ℕ) (bytes : List ℕ) → Step
   EraseNext : Step  -- of the Intel set
-  U1 : Step  -- of the Amd set, as the rest: the first unlock cycle has come, and the second
-  U2 : Step
-  E1 : Step  -- an erase was announced; and its unlock cycles
-  E2 : Step
-  E3 : Step
+  Unlock1 : Step  -- of the Amd set, as the rest: the first unlock cycle has come, and the second
+  Unlock2 : Step
+  Erase1 : Step  -- an erase was announced; and its unlock cycles
+  Erase2 : Step
+  Erase3 : Step
   LeaveNext : Step  -- to leave the mode Locks
 
 -- what is being erased: one block, or every block at once
@@ -86,8 +86,8 @@ pub record ChipState : Type 0 where
   pub held : Held
   pub flags : Flags
   pub fault : Fault
-  pub t6 : Bool
-  pub t2 : Bool
+  pub toggle_6 : Bool
+  pub toggle_2 : Bool
 
 abbrev pub no_span : Span
 no_span = record { from = 0; len = 0 }
@@ -132,6 +132,9 @@ block_of s u = block_at s.part.blocks (place s.part u)
 abbrev pub is_locked : ChipState → ℕ → Bool
 is_locked s b = slice_index_or s.locks b false
 
+abbrev pub set_lock : ℕ → Bool → ChipState → ChipState
+set_lock b locked s = record s { step = Rest; locks = slice_set s.locks b locked }
+
 -- a lock is set
 abbrev pub is_any_set : List Bool → Bool
 is_any_set locks = list_any (λ locked. locked) locks
@@ -150,6 +153,11 @@ is_held (Holds b left) = true
 abbrev pub holds_block : Held → ℕ → Bool
 holds_block NotHeld b = false
 holds_block (Holds c left) b = b == c
+
+-- the place lies in that block
+abbrev pub holds_at : Held → List Span → ℕ → Bool
+holds_at NotHeld blocks p = false
+holds_at (Holds b left) blocks p = is_within (block blocks b) p
 
 -- one more, in a counter that stays at its last value
 abbrev pub counted : ℕ → ℕ

@@ -1,27 +1,15 @@
 -- The machine of set 0001, Intel extended: what a read answers, and what a write does.
-use Rattle.std.specs.Prelude.{◌≡◌, ◌<◌, ◌+◌, ◌-◌, ◌/◌, ◌%◌, ◌^◌, ℕ, zero, suc, List, [], ◌∷◌, ◌++◌, length, slice_index, slice_set, Bool, true, false, not, ◌==◌, ◌&&◌, ◌||◌, nat_lt, nat_le, if◌then◌else◌, MatchBool}
+use Rattle.std.specs.Prelude.{◌≡◌, ◌<◌, ◌+◌, ◌-◌, ◌/◌, ◌%◌, ◌^◌, ℕ, List, [], ◌++◌, Bool, true, false, not, ◌==◌, ◌&&◌, ◌||◌, nat_lt, if◌then◌else◌, MatchBool}
 use Rattle.nor_cell.specs.Bits.{unit_len, unit_bytes, unit_at}
-use Rattle.nor_cell.specs.Table.{suspend_kind, can_program_suspended, has_locks, buffer_units, left_at_start}
+use Rattle.nor_cell.specs.Table.{has_locks, left_at_start}
 use Rattle.nor_cell.specs.declared.device.Work.{Work}
 use Rattle.nor_cell.specs.declared.device.Work.TheVariants.{Word, Buffer, Block}
-use Rattle.nor_cell.specs.Chip.{ChipState, Part, Flags, Mode, Array, Query, Ident, Status, Locks, Step, Rest, ProgramNext, EraseNext, LockNext, BufferCount, BufferData, BufferConfirm, U1, U2, E1, E2, E3, LeaveNext, Program, Erase, OneBlock, Held, NotHeld, Holds, block, block_of, has_blocks, place, is_locked, is_held, holds_block, is_within, runs, counted}
-use Rattle.nor_cell.specs.Look.{look, looked, LooksTo, suspended, resumed}
-use Rattle.nor_cell.specs.declared.device.Device.{Device}
-use Rattle.nor_cell.specs.declared.device.Device.TheVariants.{X8, X16, X16Byte}
+use Rattle.nor_cell.specs.Chip.{ChipState, Flags, Mode, Array, Query, Ident, Status, Locks, Step, Rest, ProgramNext, EraseNext, LockNext, BufferCount, BufferData, BufferConfirm, Unlock1, Unlock2, Erase1, Erase2, Erase3, LeaveNext, Program, Erase, OneBlock, block, block_of, has_blocks, place, is_locked, is_held, holds_at, set_lock, runs, counted}
+use Rattle.nor_cell.specs.Loads.{room, is_next, first_of, taken}
+use Rattle.nor_cell.specs.Shown.{register, query_at, bit_if}
+use Rattle.nor_cell.specs.Look.{held_off, look, looked, LooksTo, suspended, resumed}
 
 -- ---- what a read answers
-
--- the register of a unit: in byte mode a register takes two units
-abbrev pub register : Device → ℕ → ℕ
-register X8 u = u
-register X16 u = u
-register X16Byte u = u / 2
-
--- the table, but for its first sixteen bytes
-abbrev pub query_at : Part → ℕ → ℕ
-query_at part u =
-    let r = register part.device u in
-    if nat_le 0x10 r && nat_lt r 0x200 then slice_index part.table r else 0
 
 -- Register 2 of each block is 1 where it is locked.
 abbrev pub ident_at : ChipState → ℕ → ℕ
@@ -30,22 +18,14 @@ ident_at s u =
     let first = (block s.part.blocks b).from / unit_len s.part.device in
     if has_blocks s.part.blocks && register s.part.device (u - first) == 2 && is_locked s b then 1 else 0
 
-abbrev pub bit_if : ℕ → Bool → ℕ
-bit_if n b = if b then n else 0
-
 -- ready, with the bits for: suspended, erase error, program error, locked
 abbrev pub status_of : Bool → Flags → ℕ
 status_of held flags = 0x80 + bit_if 0x40 held + bit_if 0x20 flags.erase + bit_if 0x10 flags.program + bit_if 0x02 flags.locked
 
--- the place lies in the block whose erase is suspended
-abbrev pub in_held : Held → Part → ℕ → Bool
-in_held NotHeld part p = false
-in_held (Holds b left) part p = is_within (block part.blocks b) p
-
 -- A unit of the array; inside a held block it may be anything.
 pub record ShowsArray (s : ChipState) (u answer : ℕ) : Type 0 where
   pub fits : answer < 256 ^ unit_len s.part.device
-  pub same : in_held s.held s.part (place s.part u) ≡ false → answer ≡ unit_at s.part.device s.cells u
+  pub same : holds_at s.held s.part.blocks (place s.part u) ≡ false → answer ≡ unit_at s.part.device s.cells u
 
 abbrev pub ShowsMode : Mode → ChipState → ℕ → ℕ → Type 0
 ShowsMode Array s u answer = ShowsArray s u answer
@@ -75,10 +55,6 @@ flagged erase program locked s =
 abbrev pub misled : ChipState → ChipState
 misled s = flagged true true false s
 
--- a held erase keeps block b from being programmed
-abbrev pub held_off : ChipState → ℕ → Bool
-held_off s b = is_held s.held && (not (can_program_suspended (suspend_kind s.part.table)) || holds_block s.held b)
-
 abbrev pub begin_program : Work → ℕ → List ℕ → ChipState → ChipState
 begin_program work u bytes s =
     let b = block_of s u in
@@ -91,29 +67,6 @@ begin_erase b s =
     if is_locked s b then record (flagged true false true s) { mode = Status }
     else if is_held s.held then record (misled s) { mode = Status }
     else record s { step = Rest; mode = Status; job = Erase (OneBlock b) (left_at_start Block s.part.pace_erase s.part.table); erases = counted s.erases }
-
-abbrev pub set_lock : ℕ → Bool → ChipState → ChipState
-set_lock b locked s = record s { step = Rest; locks = slice_set s.locks b locked }
-
--- how many units its buffer takes
-abbrev pub room : ChipState → ℕ
-room s = buffer_units s.part.device s.part.table
-
--- Unit u is the one that a buffer load may take next: the first anywhere in the block; each later one behind
--- the one before, in the same page and block.
-abbrev pub is_next : ChipState → ℕ → ℕ → List ℕ → ℕ → Bool
-is_next s b first [] u = block_of s u == b
-is_next s b first (x ∷ bytes) u =
-    (block_of s u == b) && (place s.part u == place s.part first + length (x ∷ bytes)) && (u / room s == first / room s)
-
-abbrev pub first_of : ℕ → List ℕ → ℕ → ℕ
-first_of first [] u = u
-first_of first (x ∷ bytes) u = first
-
--- one more unit of a buffer load
-abbrev pub taken : ℕ → ℕ → ℕ → List ℕ → ChipState → ChipState
-taken b zero first bytes s = record s { step = BufferConfirm first bytes }
-taken b (suc missing) first bytes s = record s { step = BufferData b (suc missing) first bytes }
 
 -- at rest, by the code
 abbrev pub commanded : ChipState → ℕ → ℕ → ChipState
@@ -152,11 +105,11 @@ steps (BufferData b missing first bytes) s u v =
 steps (BufferConfirm first bytes) s u v =
     if v % 256 == 0xD0 then begin_program Buffer first bytes s else misled s
 -- steps of the other set
-steps U1 s u v = s
-steps U2 s u v = s
-steps E1 s u v = s
-steps E2 s u v = s
-steps E3 s u v = s
+steps Unlock1 s u v = s
+steps Unlock2 s u v = s
+steps Erase1 s u v = s
+steps Erase2 s u v = s
+steps Erase3 s u v = s
 steps LeaveNext s u v = s
 
 -- A write of v at unit u. While a job runs, the suspend code alone is taken.

@@ -1,14 +1,16 @@
 pub mod Amd
+pub mod Between
 pub mod Bits
 pub mod BufferCut
 pub mod Cells
 pub mod Chip
 pub mod Intel
+pub mod Loads
 pub mod Look
 pub mod Machine
 pub mod Power
 pub mod Ranges
-pub mod Resting
+pub mod Shown
 pub mod Simulated
 pub mod Steps
 pub mod Table

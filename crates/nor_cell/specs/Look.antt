@@ -2,8 +2,8 @@
 use Rattle.std.specs.Prelude.{◌≡◌, ◌<◌, ◌≤◌, ◌+◌, ◌-◌, ℕ, zero, suc, List, length, slice_index, bit_and, Bool, true, false, not, ◌==◌, ◌&&◌, ◌||◌, nat_lt, nat_le, if◌then◌else◌, Option, is_some, unwrap_or}
 use Rattle.std.specs.List.{find, list_any}
 use Rattle.nor_cell.specs.Bits.{IsBetween, ChangesWithin, unit_len}
-use Rattle.nor_cell.specs.Table.{suspend_kind, can_suspend}
-use Rattle.nor_cell.specs.Chip.{ChipState, Job, Idle, Program, Erase, Target, OneBlock, AllBlocks, Pausing, Held, NotHeld, Holds, Flags, Fault, TimeFault, covered, is_within, span_end, counted}
+use Rattle.nor_cell.specs.Table.{suspend_kind, can_suspend, can_program_suspended}
+use Rattle.nor_cell.specs.Chip.{ChipState, Job, Idle, Program, Erase, Target, OneBlock, AllBlocks, Pausing, Held, NotHeld, Holds, Flags, Fault, TimeFault, is_held, holds_block, covered, is_within, span_end, counted}
 use Rattle.nor_cell.specs.declared.device.Span.{Span}
 use Rattle.nor_cell.specs.declared.device.Set.{Set}
 use Rattle.nor_cell.specs.declared.device.Set.TheVariants.{Intel, Amd}
@@ -153,3 +153,7 @@ resumed_from (Holds b left) s = record s { job = Erase (OneBlock b) left; held =
 
 abbrev pub resumed : ChipState → ChipState
 resumed s = resumed_from s.held s
+
+-- a held erase keeps block b from being programmed
+abbrev pub held_off : ChipState → ℕ → Bool
+held_off s b = is_held s.held && (not (can_program_suspended (suspend_kind s.part.table)) || holds_block s.held b)

@@ -2,9 +2,9 @@
 use Rattle.std.specs.Prelude.{◌≡◌, ◌<◌, ◌≤◌, ◌+◌, ◌-◌, ◌*◌, ◌^◌, ℕ, List, [], ◌++◌, length, Bool, true, false, ◌==◌}
 use Rattle.nor_cell.specs.Bits.{unit_len, unit_bytes}
 use Rattle.nor_cell.specs.Table.{has_locks, buffer_units, left_at_start}
-use Rattle.nor_cell.specs.Intel.{is_next, taken, first_of}
+use Rattle.nor_cell.specs.Loads.{is_next, taken, first_of}
 use Rattle.nor_cell.specs.Cells.{part_of}
-use Rattle.nor_cell.specs.Chip.{ChipState, Mode, Array, Query, Ident, Status, Locks, Step, Rest, ProgramNext, LockNext, BufferCount, BufferData, BufferConfirm, EraseNext, U1, U2, E1, E2, E3, LeaveNext, Target, OneBlock, AllBlocks, Job, Idle, Program, Erase, Pausing, Held, NotHeld, Holds, Fault, NoFault, TimeFault, AbortFault, counted, place}
+use Rattle.nor_cell.specs.Chip.{ChipState, Mode, Array, Query, Ident, Status, Locks, Step, Rest, ProgramNext, LockNext, BufferCount, BufferData, BufferConfirm, EraseNext, Unlock1, Unlock2, Erase1, Erase2, Erase3, LeaveNext, Target, OneBlock, AllBlocks, Job, Idle, Program, Erase, Pausing, Held, NotHeld, Holds, Fault, NoFault, TimeFault, AbortFault, counted, place}
 use Rattle.nor_cell.specs.declared.device.Set.{Set}
 use Rattle.nor_cell.specs.declared.device.Work.{Work}
 use Rattle.nor_cell.specs.declared.device.Work.TheVariants.{Block, Chip}
@@ -12,7 +12,7 @@ use Rattle.nor_cell.specs.declared.cells.Cells.{Cells}
 use Rattle.nor_cell.specs.declared.state.ShownMode.{ShownMode}
 use Rattle.nor_cell.specs.declared.state.ShownMode.TheVariants.{Array as ArrayShown, Query as QueryShown, Ident as IdentShown, Status as StatusShown, Locks as LocksShown}
 use Rattle.nor_cell.specs.declared.state.NextStep.{NextStep}
-use Rattle.nor_cell.specs.declared.state.NextStep.TheVariants.{Rest as RestNow, ProgramNext as ProgramNow, LockNext as LockNow, BufferCount as CountNow, BufferData as DataNow, BufferConfirm as ConfirmNow, EraseNext as EraseNow, Unlock1, Unlock2, Erase1, Erase2, Erase3, LeaveNext as LeaveNow}
+use Rattle.nor_cell.specs.declared.state.NextStep.TheVariants.{Rest as RestNow, ProgramNext as ProgramNow, LockNext as LockNow, BufferCount as CountNow, BufferData as DataNow, BufferConfirm as ConfirmNow, EraseNext as EraseNow, Unlock1 as UnlockNow1, Unlock2 as UnlockNow2, Erase1 as EraseNow1, Erase2 as EraseNow2, Erase3 as EraseNow3, LeaveNext as LeaveNow}
 use Rattle.nor_cell.specs.declared.state.EraseTarget.{EraseTarget}
 use Rattle.nor_cell.specs.declared.state.EraseTarget.TheVariants.{OneBlock as OneTarget, AllBlocks as AllTargets}
 use Rattle.nor_cell.specs.declared.state.RunningJob.{RunningJob}
@@ -38,11 +38,11 @@ step_of (CountNow b) load = BufferCount b
 step_of (DataNow b missing first) load = BufferData b missing first load
 step_of (ConfirmNow first) load = BufferConfirm first load
 step_of EraseNow load = EraseNext
-step_of Unlock1 load = U1
-step_of Unlock2 load = U2
-step_of Erase1 load = E1
-step_of Erase2 load = E2
-step_of Erase3 load = E3
+step_of UnlockNow1 load = Unlock1
+step_of UnlockNow2 load = Unlock2
+step_of EraseNow1 load = Erase1
+step_of EraseNow2 load = Erase2
+step_of EraseNow3 load = Erase3
 step_of LeaveNow load = LeaveNext
 
 abbrev pub target_of : EraseTarget → Target
@@ -67,7 +67,7 @@ fault_of Abort load = AbortFault
 
 -- One list of bytes serves the buffer load, the program that then runs, and the one that broke.
 abbrev pub machine_of : Set → Cells → ShownMode → NextStep → RunningJob → HeldErase → StatusFlags → Failure → Bool → Bool → List ℕ → ChipState
-machine_of set cells mode step job held flags fault t6 t2 load = record {
+machine_of set cells mode step job held flags fault toggle_6 toggle_2 load = record {
   part = part_of set cells;
   cells = cells.bytes.items;
   locks = cells.locks.items;
@@ -79,8 +79,8 @@ machine_of set cells mode step job held flags fault t6 t2 load = record {
   held = held_of held;
   flags = record { erase = flags.erase; program = flags.program; locked = flags.locked };
   fault = fault_of fault load;
-  t6 = t6;
-  t2 = t2;
+  toggle_6 = toggle_6;
+  toggle_2 = toggle_2;
 }
 
 -- ---- what holds of every machine
@@ -112,11 +112,11 @@ StepFits (CountNow b) load cells = Unit {0}
 StepFits (DataNow b missing first) load cells = LoadFits missing first load cells
 StepFits (ConfirmNow first) load cells = LoadIsWhole first load cells
 StepFits EraseNow load cells = Unit {0}
-StepFits Unlock1 load cells = Unit {0}
-StepFits Unlock2 load cells = Unit {0}
-StepFits Erase1 load cells = Unit {0}
-StepFits Erase2 load cells = Unit {0}
-StepFits Erase3 load cells = Unit {0}
+StepFits UnlockNow1 load cells = Unit {0}
+StepFits UnlockNow2 load cells = Unit {0}
+StepFits EraseNow1 load cells = Unit {0}
+StepFits EraseNow2 load cells = Unit {0}
+StepFits EraseNow3 load cells = Unit {0}
 StepFits LeaveNow load cells = Unit {0}
 
 -- The locks are shown only where the table offers them.

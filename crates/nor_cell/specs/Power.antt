@@ -2,7 +2,7 @@
 use Rattle.std.specs.Prelude.{◌≡◌, ◌<◌, ◌+◌, ◌-◌, ℕ, List, length, slice_index, Bool, true, false, ◌&&◌, ◌||◌, nat_le, nat_lt, if◌then◌else◌, replicate}
 use Rattle.nor_cell.specs.Bits.{IsBetween}
 use Rattle.nor_cell.specs.Table.{has_locks}
-use Rattle.nor_cell.specs.Chip.{ChipState, Job, Idle, Program, Erase, Pausing, Held, NotHeld, Holds, NoFault, Array, Rest, block, covered, is_within}
+use Rattle.nor_cell.specs.Chip.{ChipState, Job, Idle, Program, Erase, Pausing, NotHeld, NoFault, Array, Rest, block, covered, is_within, holds_at}
 use Rattle.nor_cell.specs.declared.device.Span.{Span}
 use Rattle.nor_cell.specs.declared.device.Set.{Set}
 use Rattle.nor_cell.specs.declared.device.Set.TheVariants.{Intel, Amd}
@@ -13,10 +13,6 @@ erases_at Idle blocks p = false
 erases_at (Program at bytes left) blocks p = false
 erases_at (Erase target left) blocks p = is_within (covered target blocks) p
 erases_at (Pausing b wait left) blocks p = is_within (block blocks b) p
-
-abbrev pub holds_at : Held → List Span → ℕ → Bool
-holds_at NotHeld blocks p = false
-holds_at (Holds b left) blocks p = is_within (block blocks b) p
 
 abbrev pub programs_at : Job → ℕ → Bool
 programs_at Idle p = false
@@ -59,7 +55,7 @@ powered s = record s {
   held = NotHeld;
   fault = NoFault;
   flags = record { erase = false; program = false; locked = false };
-  t6 = false;
-  t2 = false;
+  toggle_6 = false;
+  toggle_2 = false;
   locks = locks_after s.part.set s.part.table s.locks;
 }

@@ -2,8 +2,8 @@
 use Rattle.std.specs.Prelude.{◌≡◌, ◌<◌, ◌≤◌, ◌+◌, ◌-◌, ℕ, List, length, slice_index, bit_and, bit_or, true, false, IfSome}
 use Rattle.nor_cell.specs.Bits.{unit_len}
 use Rattle.nor_cell.specs.Look.{Look, Rests, Works, Pauses, EndsProgram, EndsErase, break_of, is_weak}
-use Rattle.nor_cell.specs.Chip.{ChipState, covered, span_end}
-use Rattle.nor_cell.specs.Power.{erases_at, holds_at, programs_at, datum_at}
+use Rattle.nor_cell.specs.Chip.{ChipState, covered, span_end, holds_at}
+use Rattle.nor_cell.specs.Power.{erases_at, programs_at, datum_at}
 use Rattle.nor_cell.specs.declared.device.Span.{Span}
 
 -- The weak unit at which a program breaks off keeps its low four bits: old AND (datum OR 0x0F).

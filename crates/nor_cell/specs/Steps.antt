@@ -29,3 +29,10 @@ pub record Keeps (old new : ChipState) : Type 0 where
   pub size : length new.cells ≡ length old.cells
   pub locks : length new.locks ≡ length old.locks
   pub bytes : AreBytes old.cells → AreBytes new.cells
+
+-- The chip is what it was, with as many cells, its locks, and its count of erases.
+pub record Remains (old new : ChipState) : Type 0 where
+  pub part : new.part ≡ old.part
+  pub size : length new.cells ≡ length old.cells
+  pub locks : new.locks ≡ old.locks
+  pub erases : new.erases ≡ old.erases

@@ -7,6 +7,8 @@
 //! - `Look`: how jobs run and end, for both sets. `Power`: what a cut leaves, and power-on.
 //! - `Intel` and `Amd`: the machines of sets 0001 and 0002. A read is a relation of the old state,
 //!   the answer and the new state, as cells may end in several ways; a write is a function.
+//!   `Shown` and `Loads`: what both sets show alike, and how both take a buffer load.
+//! - `Between`: a chip between two commands, of either set.
 //! - `Steps`: a chip of either set at a cycle. `Wiring`: where a byte of a bank lies in its chips.
 //! - `Machine`: the state that a simulated chip stands for. `Simulated`: what the simulated chips
 //!   leave where a chip may leave several things.
@@ -17,6 +19,7 @@
 //! its commands and what its reads show. It stands on the standard library and `arrayvec`.
 #![tactic(auto)]
 
+mod addresses;
 mod bits;
 mod blocks;
 mod buffer_cut;
@@ -34,6 +37,7 @@ mod table;
 #[cfg(test)]
 mod tests;
 
+pub use addresses::{first_address, second_address};
 pub use bits::{is_between, unit_len};
 pub use blocks::block;
 pub use buffer_cut::cut_in_a_load;

@@ -2,7 +2,7 @@
 ghost use Rattle.std.specs.Prelude.{◌≡◌, ◌+◌, ◌*◌, ◌<◌, ◌≤◌, ◌++◌, [], ◌∷◌, length, true};
 ghost use Rattle.nor_cell.specs.Bits.{unit_len, unit_bytes};
 ghost use Rattle.nor_cell.specs.Chip.{Idle, NoFault, Part, BufferData, BufferConfirm, units};
-ghost use Rattle.nor_cell.specs.Intel.{room};
+ghost use Rattle.nor_cell.specs.Loads.{room};
 ghost use Rattle.nor_cell.specs.Machine.{load_of, takes, loaded, program_started};
 
 use crate::bits::unit_len;

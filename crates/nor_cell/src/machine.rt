@@ -2,7 +2,7 @@
 //! make of a read, of a loss of power, and of its return.
 ghost use Rattle.std.specs.Prelude.{◌≡◌, true, false};
 ghost use Rattle.nor_cell.specs.Cells.{chip_of};
-ghost use Rattle.nor_cell.specs.Intel.{set_lock};
+ghost use Rattle.nor_cell.specs.Chip.{set_lock};
 ghost use Rattle.nor_cell.specs.Look.{look, looked, LooksTo, suspended, resumed};
 ghost use Rattle.nor_cell.specs.Machine.{is_over, target_of, erase_started};
 ghost use Rattle.nor_cell.specs.Power.{Cuts, locks_after, powered};

@@ -3,7 +3,8 @@ ghost use Rattle.std.specs.Prelude.{◌≡◌, ◌<◌, ◌^◌, length};
 ghost use Rattle.nor_cell.specs.Bits.{AreBytes, unit_len, unit_at};
 ghost use Rattle.nor_cell.specs.Cells.{HasCells};
 ghost use Rattle.nor_cell.specs.Chip.{Part, units, block_of, is_locked, is_any_set, is_held, runs};
-ghost use Rattle.nor_cell.specs.Intel.{register, query_at, held_off};
+ghost use Rattle.nor_cell.specs.Shown.{register, query_at};
+ghost use Rattle.nor_cell.specs.Look.{held_off};
 ghost use Rattle.nor_cell.specs.Ranges.{IsChip};
 
 use crate::bits::{unit_at, unit_len};

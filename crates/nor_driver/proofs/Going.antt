@@ -3,23 +3,21 @@ use Rattle.std.proofs.Common.{◌≡◌, ◌<◌, ◌≤◌, ◌+◌, ◌∙◌,
 use Rattle.std.specs.Prelude.{All}
 use Rattle.std.proofs.lemmas.List.Elements.{All-push}
 use Rattle.nor_cell.specs.Chip.{counted}
-use Rattle.nor_bus.specs.Bus.{BusState, lanes_of, more}
+use Rattle.nor_bus.specs.Bus.{lanes_of, more}
 use Rattle.nor_bus.specs.Cycles.{KeepsLanes}
-use Rattle.nor_bus.specs.Driven.{EachLane}
 use Rattle.nor_bus.proofs.Driving.{keeps_then}
 use Rattle.nor_array.specs.Array.{ArrayState}
 use Rattle.nor_array.specs.After.{after, after_all}
 use Rattle.nor_array.specs.Legal.{Facts, Agrees, Legal}
 use Rattle.nor_array.specs.declared.entry.Entry.{Entry}
-use Rattle.nor_array.proofs.Histories.{legal_more}
+use Rattle.nor_array.proofs.Histories.{after_last, legal_more}
 use Rattle.nor_bank.specs.Calls.{facts_of}
-use Rattle.nor_bank.specs.Programs.{Lasts}
-use Rattle.nor_bank.specs.Stands.{Stands}
 use Rattle.nor_bank.specs.State.{BankState, word_bytes}
 use Rattle.nor_turn.specs.Fronts.{Name, Front}
 use Rattle.nor_bank.specs.Work.{CanCall}
 use Rattle.nor_bank.proofs.Keeping.{keeps_self}
 use Rattle.nor_bank.proofs.Lasting.{facts_last}
+use Rattle.nor_bank.proofs.Standing.{lasts_on, lasts_self}
 use Rattle.nor_driver.specs.Fronts.{StandsFrom, StandsFor, entries_of, is_call, opens, loses, words_of, opened, lost, words_read, risen, opener_after, ClosesOwn, AllCloseOwn, cycles_left}
 use Rattle.nor_driver.specs.Made.{GoesOn, Rests}
 use Rattle.nor_driver.proofs.Afters.{same_armed}
@@ -30,10 +28,6 @@ use Rattle.nor_driver.proofs.Cuts.{left_within}
 pub entries_last : (front : Front Entry) (name : Name) (e : Entry) → entries_of (front ++ (name, e) ∷ []) ≡ entries_of front ++ e ∷ []
 entries_last [] name e = refl
 entries_last (p ∷ front) name e = ap (λ (es : List Entry). p.1 ∷ es) (entries_last front name e)
-
-after_last : (a : ArrayState) (es : List Entry) (e : Entry) → after_all a (es ++ e ∷ []) ≡ after (after_all a es) e
-after_last a [] e = refl
-after_last a (x ∷ es) e = after_last (after a x) es e
 
 opened_last : (es : List Entry) (e : Entry) → opened (es ++ e ∷ []) ≡ opened es + opens e.reply
 opened_last [] e = omega arith
@@ -64,29 +58,6 @@ closes_last opener (p ∷ front) name e all one =
 
 same_facts : (old new : BankState) → new.found ≡ old.found → KeepsLanes old.bus new.bus → facts_of new ≡ facts_of old
 same_facts old new found lanes = facts_last old new found lanes.count (λ c below. (lanes.each c below).part)
-
-pub lasts_then : (x y z : BusState) → KeepsLanes x y → EachLane Lasts x y → EachLane Lasts y z → EachLane Lasts x z
-lasts_then x y z keeps first next = λ c below.
-    let one = first c below in
-    let two = next c (subst (λ (n : ℕ). c < n) (sym keeps.count) below) in
-    record {
-      part = two.part ∙ one.part;
-      locks = two.locks ∙ one.locks;
-      suspends = two.suspends ∙ one.suspends;
-      erases = two.erases ∙ one.erases;
-      size = two.size ∙ one.size;
-      bytes = two.bytes;
-    }
-
-pub lasts_self : (b : BankState) (a : ArrayState) → Stands b a → EachLane Lasts b.bus b.bus
-lasts_self b a stands = λ c below. record {
-  part = refl;
-  locks = refl;
-  suspends = refl;
-  erases = refl;
-  size = refl;
-  bytes = (stands.known.wired.chips c below).chip.bytes;
-}
 
 -- ---- no entry yet
 
@@ -123,7 +94,7 @@ stands_more first now next a front name e so goes =
       closes = closes_last None front name e so.closes (λ o. goes.closes name o);
       found = goes.found ∙ so.found;
       lanes = keeps_then first.bus now.bus next.bus so.lanes goes.lanes;
-      lasts = lasts_then first.bus now.bus next.bus so.lanes so.lasts goes.lasts;
+      lasts = lasts_on first.bus now.bus next.bus so.lanes.count so.lasts goes.lasts;
       erases = λ c below.
           let there : c < lanes_of now.bus = subst (λ (n : ℕ). c < n) (sym so.lanes.count) below in
           let mid = so.erases c below in
@@ -158,7 +129,7 @@ stands_still first now next a front so rests = record {
   closes = so.closes;
   found = rests.found ∙ so.found;
   lanes = keeps_then first.bus now.bus next.bus so.lanes rests.lanes;
-  lasts = lasts_then first.bus now.bus next.bus so.lanes so.lasts rests.lasts;
+  lasts = lasts_on first.bus now.bus next.bus so.lanes.count so.lasts rests.lasts;
   erases = λ c below. rests.erases c (subst (λ (n : ℕ). c < n) (sym so.lanes.count) below) ∙ so.erases c below;
   failed = no_fewer (lost (entries_of front)) first.bus.failed now.bus.failed next.bus.failed so.failed rests.failed;
   reads = λ cut is. let before = so.reads cut is in let left = rests.reads in omega (arith, before, left);

@@ -1,5 +1,5 @@
 -- When a bank under the lock stands for a front of the history.
-use Rattle.std.specs.Prelude.{◌≡◌, ◌≤◌, ◌+◌, ◌==◌, ℕ, zero, suc, if◌then◌else◌, List, [], ◌∷◌, map, Bool, true, false, Option, Some, None, All}
+use Rattle.std.specs.Prelude.{◌≡◌, ◌≤◌, ◌+◌, ℕ, zero, suc, List, [], ◌∷◌, map, Bool, true, false, Option, Some, None, All}
 use Rattle.nor_cell.specs.Chip.{counted}
 use Rattle.nor_bus.specs.Bus.{more}
 use Rattle.nor_bus.specs.Cycles.{KeepsLanes}
@@ -54,7 +54,7 @@ loses _ = 0
 
 -- how many bus words a read that is done has read
 abbrev pub words_of : ℕ → Reply → Op → ℕ
-words_of w Done (Read at len) = if len == 0 then 0 else words_met at len w
+words_of w Done (Read at len) = words_met at len w
 words_of w _ op = 0
 
 -- the same of all entries

@@ -52,8 +52,6 @@ impl<W: BusWord, B: Bus<W>> Call<W, B> for Read {
     ghost op = { λ call len. ReadOp call.at len };
 
     fn make(&self, bank: &mut Bank<W, B>, caller: u8, into: &mut [u8]) -> Reply {
-        // Every bus says that its chips fill its word.
-        let _ = bank.bus().units();
         bank.read(caller, self.at, into)
     }
 }

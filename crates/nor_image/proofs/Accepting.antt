@@ -3,6 +3,8 @@ use Rattle.std.proofs.Common.{◌≡◌, ◌<◌, ◌≤◌, ℕ, ◌+◌, ◌%�
 use Rattle.std.proofs.lemmas.Bool.Decides.{nat_tests}
 use Rattle.std.specs.Int.{from_bool}
 use Rattle.std.specs.List.{list_all}
+use Rattle.std.proofs.lemmas.Bool.{and_from}
+use Rattle.nor_cell.proofs.Logic.{both_pass}
 use Rattle.nor_cell.specs.Bits.{unit_len}
 use Rattle.nor_cell.specs.Chip.{Part}
 use Rattle.nor_cell.specs.Ranges.{is_ascending_below, begin_units}
@@ -10,7 +12,6 @@ use Rattle.nor_cell.specs.declared.device.Device.{Device}
 use Rattle.nor_io.specs.Fields.{u32_at}
 use Rattle.nor_image.specs.Image.{Field, any_field, tested_field, refusal_of, first_refusal, number_fields, table_field, size_field, weak_field, weak_fields, weak_field_at, least_weak, is_weak_place, lock_fields, cells_field, record_fields, is_size_by, weak_count, table_in, size_in, device_of}
 use Rattle.nor_image.specs.declared.error.ImageError.TheVariants.{BadHeader}
-use Rattle.nor_image.proofs.Joined.{both, join}
 use Rattle.nor_image.proofs.ReadBack.{SaysKept}
 use Rattle.nor_image.proofs.Records.{in_cells}
 use Rattle.nor_image.proofs.Refusals.{or_none, goes_on}
@@ -30,32 +31,32 @@ next_above : (n : ℕ) (xs : List ℕ) (k : ℕ) → IsTrue (is_ascending_below 
 next_above n [] k h below = absurd (omega arith)
 next_above n (x ∷ []) k h below = absurd (omega arith)
 next_above n (x ∷ y ∷ ys) zero h below =
-    let first : nat_lt x y ≡ true = (both (nat_lt x y) (is_ascending_below n (y ∷ ys)) h).0 in grind (arith, nat_tests)
-next_above n (x ∷ y ∷ ys) (suc k) h below = next_above n (y ∷ ys) k (both (nat_lt x y) (is_ascending_below n (y ∷ ys)) h).1 (omega arith)
+    let first : nat_lt x y ≡ true = (both_pass (nat_lt x y) (is_ascending_below n (y ∷ ys)) h).0 in grind (arith, nat_tests)
+next_above n (x ∷ y ∷ ys) (suc k) h below = next_above n (y ∷ ys) k (both_pass (nat_lt x y) (is_ascending_below n (y ∷ ys)) h).1 (omega arith)
 
 pub all_below : (n : ℕ) (xs : List ℕ) (k : ℕ) → IsTrue (is_ascending_below n xs) → k < length xs → get_or xs k 0 < n
 all_below n [] k h below = absurd (omega arith)
 all_below n (x ∷ []) zero h below = (let first : nat_lt x n ≡ true = h in grind (arith, nat_tests))
 all_below n (x ∷ []) (suc k) h below = absurd (omega arith)
 all_below n (x ∷ y ∷ ys) zero h below =
-    let first : nat_lt x y ≡ true = (both (nat_lt x y) (is_ascending_below n (y ∷ ys)) h).0 in
-    let later = all_below n (y ∷ ys) 0 (both (nat_lt x y) (is_ascending_below n (y ∷ ys)) h).1 (omega arith) in
+    let first : nat_lt x y ≡ true = (both_pass (nat_lt x y) (is_ascending_below n (y ∷ ys)) h).0 in
+    let later = all_below n (y ∷ ys) 0 (both_pass (nat_lt x y) (is_ascending_below n (y ∷ ys)) h).1 (omega arith) in
     let less : x < y = grind (arith, nat_tests) in
     omega arith
-all_below n (x ∷ y ∷ ys) (suc k) h below = all_below n (y ∷ ys) k (both (nat_lt x y) (is_ascending_below n (y ∷ ys)) h).1 (omega arith)
+all_below n (x ∷ y ∷ ys) (suc k) h below = all_below n (y ∷ ys) k (both_pass (nat_lt x y) (is_ascending_below n (y ∷ ys)) h).1 (omega arith)
 
 -- what passes for all places passes for each
 each_passes : (p : ℕ → Bool) (xs : List ℕ) (k : ℕ) → list_all p xs ≡ true → k < length xs → p (get_or xs k 0) ≡ true
 each_passes p [] k h below = absurd (omega arith)
-each_passes p (x ∷ xs) zero h below = (both (p x) (list_all p xs) h).0
-each_passes p (x ∷ xs) (suc k) h below = each_passes p xs k (both (p x) (list_all p xs) h).1 (omega arith)
+each_passes p (x ∷ xs) zero h below = (both_pass (p x) (list_all p xs) h).0
+each_passes p (x ∷ xs) (suc k) h below = each_passes p xs k (both_pass (p x) (list_all p xs) h).1 (omega arith)
 
 -- a place that ascends, begins a unit and lies below the size
 place_right : (device : Device) (size least place : ℕ) → least ≤ place → (place % unit_len device == 0) ≡ true → place < size → is_weak_place device size least place ≡ true
 place_right device size least place above begins below =
     let first : nat_le least place ≡ true = grind (arith, nat_tests) in
     let last : nat_lt place size ≡ true = grind (arith, nat_tests) in
-    join (nat_le least place && place % unit_len device == 0) (nat_lt place size) (join (nat_le least place) (place % unit_len device == 0) first begins) last
+    and_from (nat_le least place && place % unit_len device == 0) (nat_lt place size) (and_from (nat_le least place) (place % unit_len device == 0) first begins) last
 
 -- the least that place k may be
 least_right : (file : List ℕ) (at size k : ℕ) (places : List ℕ) → ((j : ℕ) → j < length places → u32_at file (weak_field_at at j) ≡ get_or places j 0)

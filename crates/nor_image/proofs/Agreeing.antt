@@ -1,11 +1,11 @@
 -- Locks that agree with those of the lanes before, and what the fields of locks refuse.
 use Rattle.std.proofs.Common.{◌≡◌, ◌≢◌, ◌<◌, ◌≤◌, ◌⊎◌, inl, inr, ◌+◌, ◌==◌, ◌||◌, ◌&&◌, ℕ, zero, suc, List, [], ◌∷◌, ◌++◌, length, slice_index, Bool, true, false, not, nat_le, refl, sym, ap, subst, ◌∙◌, arith, add-one, Some, None}
 use Rattle.std.specs.Prelude.{slice_index_or}
-use Rattle.std.proofs.lemmas.Bool.{cases_eq}
+use Rattle.std.proofs.lemmas.Bool.{cases_eq, and_from}
 use Rattle.std.proofs.lemmas.Bool.Decides.{nat_tests}
+use Rattle.nor_cell.proofs.Logic.{both_pass}
 use Rattle.nor_image.specs.Image.{tested_field, refusal_of, first_refusal, same_lock, is_agreed, is_lock_byte, each_lock, locks_from}
 use Rattle.nor_image.specs.declared.error.ImageError.{ImageError}
-use Rattle.nor_image.proofs.Joined.{both, join}
 use Rattle.nor_image.proofs.Refusals.{first_refusal-append, goes_on, or_none, or_some, stays, none_both, field_passes}
 
 -- ---- agreement
@@ -32,10 +32,10 @@ agreed_at [] count k locked c h below same = absurd (omega arith)
 agreed_at (locks ∷ before) count k locked zero h below same =
     same_is (slice_index_or locks k false) locked
     (as_many (length locks) count (same_lock (slice_index_or locks k false) locked)
-    (both (not (length locks == count) || same_lock (slice_index_or locks k false) locked) (is_agreed before count k locked) h).0 same)
+    (both_pass (not (length locks == count) || same_lock (slice_index_or locks k false) locked) (is_agreed before count k locked) h).0 same)
 agreed_at (locks ∷ before) count k locked (suc c) h below same =
     agreed_at before count k locked c
-    (both (not (length locks == count) || same_lock (slice_index_or locks k false) locked) (is_agreed before count k locked) h).1 (omega arith) same
+    (both_pass (not (length locks == count) || same_lock (slice_index_or locks k false) locked) (is_agreed before count k locked) h).1 (omega arith) same
 
 pub one_agrees : (n count : ℕ) (same : Bool) → (n ≡ count → same ≡ true) → (n ≡ count) ⊎ (n ≢ count) → (not (n == count) || same) ≡ true
 one_agrees n count same h (inl is) =
@@ -50,7 +50,7 @@ pub all_agreed : (before : List (List Bool)) (count k : ℕ) (locked : Bool)
     → is_agreed before count k locked ≡ true
 all_agreed [] count k locked each = refl
 all_agreed (locks ∷ before) count k locked each =
-    join (not (length locks == count) || same_lock (slice_index_or locks k false) locked) (is_agreed before count k locked)
+    and_from (not (length locks == count) || same_lock (slice_index_or locks k false) locked) (is_agreed before count k locked)
     (one_agrees (length locks) count (same_lock (slice_index_or locks k false) locked) (λ is. is_same (slice_index_or locks k false) locked (each 0 (omega arith) is)) (cases_eq (length locks) count))
     (all_agreed before count k locked (λ c below same. each (suc c) (omega arith) same))
 

@@ -2,13 +2,13 @@
 use Rattle.std.proofs.Common.{◌≡◌, ◌≢◌, ◌<◌, ◌+◌, ◌==◌, ◌||◌, ℕ, List, [], ◌∷◌, ◌++◌, length, map, take, get_or, Bool, true, false, not, refl, sym, ap, subst, ◌∙◌, arith}
 use Rattle.std.proofs.lemmas.Bool.Decides.{nat_tests}
 use Rattle.std.proofs.lemmas.List.{get_or-map, length-map, map-append, take_more}
+use Rattle.nor_cell.proofs.Logic.{both_pass}
 use Rattle.nor_cell.specs.declared.cells.Cells.{Cells}
 use Rattle.nor_cell.specs.declared.device.Set.{Set}
 use Rattle.nor_image.specs.Image.{kept_locks, same_lock, is_agreed}
 use Rattle.nor_image.specs.Reading.{kept_of_each}
 use Rattle.nor_image.proofs.Agreeing.{agreed_at, one_agrees, is_same}
-use Rattle.nor_image.proofs.Joined.{both, join}
-use Rattle.std.proofs.lemmas.Bool.{cases_eq}
+use Rattle.std.proofs.lemmas.Bool.{cases_eq, and_from}
 
 never : (b : Bool) → (b ≡ true → false ≡ true) → false ≡ b
 never true h = h refl
@@ -28,10 +28,10 @@ disagrees set before i count k locked item kept below is locks same apart =
 -- one more lane that agrees
 agreed_snoc : (before : List (List Bool)) (locks : List Bool) (count k : ℕ) (locked : Bool) → is_agreed before count k locked ≡ true
     → (not (length locks == count) || same_lock (get_or locks k false) locked) ≡ true → is_agreed (before ++ locks ∷ []) count k locked ≡ true
-agreed_snoc [] locks count k locked agreed one = join (not (length locks == count) || same_lock (get_or locks k false) locked) true one refl
+agreed_snoc [] locks count k locked agreed one = and_from (not (length locks == count) || same_lock (get_or locks k false) locked) true one refl
 agreed_snoc (first ∷ before) locks count k locked agreed one =
-    let parts = both (not (length first == count) || same_lock (get_or first k false) locked) (is_agreed before count k locked) agreed in
-    join (not (length first == count) || same_lock (get_or first k false) locked) (is_agreed (before ++ locks ∷ []) count k locked) parts.0
+    let parts = both_pass (not (length first == count) || same_lock (get_or first k false) locked) (is_agreed before count k locked) agreed in
+    and_from (not (length first == count) || same_lock (get_or first k false) locked) (is_agreed (before ++ locks ∷ []) count k locked) parts.0
     (agreed_snoc before locks count k locked parts.1 one)
 
 one_more : (set : Set) (before : List Cells) (i count k : ℕ) (locked : Bool) (item : Cells) (kept : List Bool) → i < length before → item ≡ get_or before i item

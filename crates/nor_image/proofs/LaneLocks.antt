@@ -2,17 +2,18 @@
 use Rattle.std.proofs.Common.{◌≡◌, ◌≢◌, ◌<◌, ◌≤◌, ◌⊎◌, inl, inr, ◌+◌, ◌==◌, ℕ, zero, suc, List, [], ◌∷◌, ◌++◌, length, slice_index, slice_index_or, Bool, true, false, nat_le, replicate, refl, sym, ap, subst, ◌∙◌, arith, if◌then◌else◌, Some, None}
 use Rattle.std.proofs.lemmas.Bool.{cases_eq, cases_lt}
 use Rattle.std.specs.Option.{option_or}
+use Rattle.nor_cell.proofs.Logic.{both_pass}
 use Rattle.nor_cell.specs.Chip.{ChipState}
-use Rattle.nor_cell.specs.Table.{set_of}
+use Rattle.nor_cell.specs.Table.{has_locks, set_of}
 use Rattle.nor_cell.specs.declared.device.Set.{Set}
 use Rattle.nor_bus.specs.Bus.{chip_at}
-use Rattle.nor_image.specs.Image.{first_refusal, refusal_of, record_fields, fields_before, record_place, number_fields, table_field, size_field, weak_fields, lock_fields, lock_fields_of, cells_field, weak_count, version_of, machine_of, lanes_of_file, image_refusal, trailing, table_in, lock_count, locks_at, locks_from, locks_of, keeps_locks, kept_in, kept_before, is_agreed, is_lock_byte, each_lock, count_field}
+use Rattle.nor_query.specs.Derived.{keeps_locks}
+use Rattle.nor_image.specs.Image.{first_refusal, refusal_of, record_fields, fields_before, record_place, number_fields, table_field, size_field, weak_fields, lock_fields, lock_fields_of, cells_field, weak_count, version_of, machine_of, lanes_of_file, image_refusal, trailing, table_in, lock_count, locks_at, locks_from, locks_of, kept_in, kept_before, is_agreed, is_lock_byte, each_lock, count_field}
 use Rattle.nor_image.specs.Reading.{AreChips}
 use Rattle.nor_image.specs.Written.{kept_of, bank_set, AgreeOnLocks}
 use Rattle.nor_image.specs.declared.header.Version.{Version}
 use Rattle.nor_image.specs.declared.header.Version.TheVariants.{One, Two}
 use Rattle.nor_image.proofs.Agreeing.{agreed_at, each_lock_right}
-use Rattle.nor_image.proofs.Joined.{both}
 use Rattle.nor_image.proofs.LockBits.{lock_there, length-locks_from, kept_in_two, kept_in_one, kept_after, length-kept_before, kept_before_at}
 use Rattle.nor_image.proofs.Records.{in_parts}
 use Rattle.nor_image.proofs.Refusals.{first_refusal-append, none_both, field_passes}
@@ -82,7 +83,7 @@ earlier_agrees Two file c d two none before same =
     let inside : k < count = omega arith in
     let byte = slice_index file (first + k) in
     let right = field_passes file (first + k) 1 (is_lock_byte (kept_before file d) count k byte) (each_lock_right file (kept_before file d) first count count k each inside) in
-    let agreed = (both (nat_le byte 1) (is_agreed (kept_before file d) count k (byte == 1)) right).1 in
+    let agreed = (both_pass (nat_le byte 1) (is_agreed (kept_before file d) count k (byte == 1)) right).1 in
     let lane : c < length (kept_before file d) = (let n = length-kept_before file d in omega arith) in
     sym (ap (λ (ls : List Bool). slice_index_or ls k false) there)
     ∙ (agreed_at (kept_before file d) count k (byte == 1) c agreed lane many
@@ -139,5 +140,5 @@ same_by false false xs ys is same = refl
 -- chips with the same locks agree on them
 pub same_locks_agree : (chips : List ChipState) → ((c : ℕ) → c < length chips → (chip_at chips c).locks ≡ (chip_at chips 0).locks) → AgreeOnLocks chips
 same_locks_agree chips all = λ c d bc bd same.
-    same_by (keeps_locks (bank_set chips) (chip_at chips c).part.table) (keeps_locks (bank_set chips) (chip_at chips d).part.table)
+    same_by (keeps_locks (bank_set chips) (has_locks (chip_at chips c).part.table)) (keeps_locks (bank_set chips) (has_locks (chip_at chips d).part.table))
     (chip_at chips c).locks (chip_at chips d).locks (all c bc ∙ sym (all d bd)) same

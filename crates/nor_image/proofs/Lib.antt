@@ -3,7 +3,6 @@ pub mod Agreeing
 pub mod BlockCounts
 pub mod CellLocks
 pub mod Images
-pub mod Joined
 pub mod LaneLocks
 pub mod Lanes
 pub mod LockBits

@@ -15,8 +15,8 @@ use Rattle.nor_cell.specs.declared.device.Set.{Set}
 use Rattle.nor_cell.specs.declared.device.Span.{Span}
 use Rattle.nor_bus.proofs.Sizes.{chip_size}
 use Rattle.nor_cell.specs.declared.device.Set.TheVariants.{Intel, Amd}
-use Rattle.nor_query.specs.Derived.{table_blocks}
-use Rattle.nor_image.specs.Image.{version_of, machine_of, table_in, keeps_locks, kept_locks, stored_count, locks_len, lock_count, locks_at, locks_from, locks_of, lock_fields, lock_fields_of, kept_in, kept_before, record_place}
+use Rattle.nor_query.specs.Derived.{keeps_locks, table_blocks}
+use Rattle.nor_image.specs.Image.{version_of, machine_of, table_in, kept_locks, stored_count, locks_len, lock_count, locks_at, locks_from, locks_of, lock_fields, lock_fields_of, kept_in, kept_before, record_place}
 use Rattle.nor_image.specs.declared.header.Version.{Version}
 use Rattle.nor_image.specs.declared.header.Version.TheVariants.{One, Two}
 
@@ -60,7 +60,7 @@ given_kept false (x ∷ xs) n same = absurd (omega arith)
 -- in version 2 the locks that are stored are those that the chip keeps
 pub stored_kept : (set : Set) (table : List ℕ) (xs : List Bool) → length xs ≡ stored_count Two set table
     → kept_locks set table (given_or_open xs (length (table_blocks table))) ≡ xs
-stored_kept set table xs same = given_kept (keeps_locks set table) xs (length (table_blocks table)) same
+stored_kept set table xs same = given_kept (keeps_locks set (has_locks table)) xs (length (table_blocks table)) same
 
 either : (keeps : Bool) (n : ℕ) → ((if keeps then n else 0) ≡ 0) ⊎ ((if keeps then n else 0) ≡ n)
 either true n = inr refl
@@ -69,7 +69,7 @@ either false n = inl refl
 -- either none or one for each block
 pub stored_either : (version : Version) (set : Set) (table : List ℕ) → (stored_count version set table ≡ 0) ⊎ (stored_count version set table ≡ length (table_blocks table))
 stored_either One set table = inl refl
-stored_either Two set table = either (keeps_locks set table) (length (table_blocks table))
+stored_either Two set table = either (keeps_locks set (has_locks table)) (length (table_blocks table))
 
 none_or_each : (n count : ℕ) → (count ≡ 0) ⊎ (count ≡ n) → is_none_or_each n count ≡ true
 none_or_each n count (inl is) = (let same : (count == 0) ≡ true = grind (arith, nat_tests) in ap (λ (b : Bool). b || (count == n)) same)
@@ -158,7 +158,7 @@ clear false n = refl
 pub kept_in_one : (file : List ℕ) (at : ℕ) → version_of file ≡ One → kept_in file at ≡ replicate (length (kept_in file at)) false
 kept_in_one file at one =
     let n = length (table_blocks (table_in file at)) in
-    let keeps = keeps_locks (machine_of file) (table_in file at) in
+    let keeps = keeps_locks (machine_of file) (has_locks (table_in file at)) in
     let none : lock_count file at ≡ 0 = lock_count_is file at ∙ one_stores_none (version_of file) (machine_of file) (table_in file at) one in
     let opened : locks_of file at ≡ replicate n false = locks_of_is file at ∙ ap (λ (k : ℕ). given_or_open (locks_from file (locks_at file at + 4) k) n) none in
     let is : kept_in file at ≡ (if keeps then replicate n false else []) = ap (kept_locks (machine_of file) (table_in file at)) opened in
@@ -183,7 +183,7 @@ kept_few_by true xs = omega arith
 kept_few_by false xs = omega arith
 
 pub kept_few : (set : Set) (table : List ℕ) (xs : List Bool) → length (kept_locks set table xs) ≤ length xs
-kept_few set table xs = kept_few_by (keeps_locks set table) xs
+kept_few set table xs = kept_few_by (keeps_locks set (has_locks table)) xs
 
 -- power-on keeps them
 after_by : (b : Bool) (xs ys : List Bool) → (if b then (if b then xs else ys) else []) ≡ (if b then xs else [])

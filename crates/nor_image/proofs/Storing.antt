@@ -3,9 +3,10 @@ use Rattle.std.proofs.Common.{◌≡◌, ◌<◌, ◌≤◌, ℕ, ◌+◌, ◌^�
 use Rattle.std.proofs.lemmas.Bool.Decides.{nat_tests}
 use Rattle.std.proofs.lemmas.List.{length-append, length-map, get_or-map, get_or_default, take_all}
 use Rattle.std.specs.Int.{from_bool}
+use Rattle.std.proofs.lemmas.Bool.{and_from}
 use Rattle.nor_cell.specs.Chip.{ChipState, Part}
 use Rattle.nor_cell.specs.Power.{powered, locks_after}
-use Rattle.nor_cell.specs.Table.{set_of}
+use Rattle.nor_cell.specs.Table.{has_locks, set_of}
 use Rattle.nor_cell.specs.Wiring.{is_wiring}
 use Rattle.nor_cell.specs.declared.device.Device.{Device}
 use Rattle.nor_cell.specs.declared.device.Device.TheVariants.{X8, X16, X16Byte}
@@ -13,8 +14,8 @@ use Rattle.nor_cell.specs.declared.device.Set.{Set}
 use Rattle.nor_cell.specs.declared.device.Span.{Span}
 use Rattle.nor_bus.specs.Bus.{IsBank, chip_at, no_chip}
 use Rattle.nor_io.specs.Fields.{u32_at}
-use Rattle.nor_query.specs.Derived.{table_blocks}
-use Rattle.nor_image.specs.Image.{magic_field, first_refusal, header_fields, fields_before, record_fields, lock_fields, lock_fields_of, record_place, image_refusal, is_width, version_of, width_of, device_of, device_of_code, lanes_of_file, machine_of, table_in, size_in, weak_in, cells_at, bytes_at, keeps_locks, kept_locks, stored_count, locks_len, lock_count, locks_at, locks_from, locks_of, kept_in, kept_before, is_agreed, is_lock_byte, chip_in, part_in}
+use Rattle.nor_query.specs.Derived.{keeps_locks, table_blocks}
+use Rattle.nor_image.specs.Image.{magic_field, first_refusal, header_fields, fields_before, record_fields, lock_fields, lock_fields_of, record_place, image_refusal, is_width, version_of, width_of, device_of, device_of_code, lanes_of_file, machine_of, table_in, size_in, weak_in, cells_at, bytes_at, kept_locks, stored_count, locks_len, lock_count, locks_at, locks_from, locks_of, kept_in, kept_before, is_agreed, is_lock_byte, chip_in, part_in}
 use Rattle.nor_image.specs.Written.{code_of_device, header_bytes, kept_of, record_bytes, records_bytes, bank_set, AreStorable, AgreeOnLocks, Stores}
 use Rattle.nor_image.specs.declared.header.Version.{Version}
 use Rattle.nor_image.specs.declared.header.Version.TheVariants.{Two}
@@ -25,7 +26,6 @@ use Rattle.nor_image.proofs.Refusals.{or_none, goes_on, ends}
 use Rattle.nor_image.proofs.Accepting.{right_field, right_tested, record_right, bit_right, all_below}
 use Rattle.nor_image.proofs.Agreeing.{all_agreed, all_locks_right}
 use Rattle.nor_image.proofs.BlockCounts.{few_blocks}
-use Rattle.nor_image.proofs.Joined.{join}
 use Rattle.nor_image.proofs.LockBits.{lock_count_is, length-locks_of, kept_in_two, kept_few, same_after, length-kept_before, kept_before_at}
 use Rattle.nor_image.proofs.Standing.{Stand, stand_at, stand_behind, stand_first, stand_second}
 
@@ -95,7 +95,7 @@ counted_by false n locks long = refl
 counted : (set : Set) (chip : ChipState) → chip.part.blocks ≡ table_blocks chip.part.table → length chip.locks ≡ length chip.part.blocks
     → stored_count Two set chip.part.table ≡ length (kept_of set chip)
 counted set chip blocks locks =
-    counted_by (keeps_locks set chip.part.table) (length (table_blocks chip.part.table)) chip.locks (locks ∙ ap (λ (xs : List Span). length xs) blocks)
+    counted_by (keeps_locks set (has_locks chip.part.table)) (length (table_blocks chip.part.table)) chip.locks (locks ∙ ap (λ (xs : List Span). length xs) blocks)
 
 -- which are few
 few_kept : (set : Set) (chip : ChipState) → chip.part.blocks ≡ table_blocks chip.part.table → HasFields chip → length (kept_of set chip) < 2 ^ 32
@@ -235,7 +235,7 @@ lock_agrees file width device chips c k is storable agree below inside =
     let there : slice_index_or (kept_before file c) d [] ≡ kept_of set (chip_at chips d) = kept_before_at file c d less ∙ kept_there file width device chips d is storable (omega arith) in
     let as_many : length (kept_of set (chip_at chips d)) ≡ length kept = sym (ap (λ (ls : List Bool). length ls) there) ∙ (same ∙ count) in
     ap (λ (ls : List Bool). slice_index_or ls k false) (there ∙ agree d c (omega arith) below as_many) ∙ sym locked in
-    join (nat_le byte 1) (is_agreed (kept_before file c) (lock_count file at) k (byte == 1))
+    and_from (nat_le byte 1) (is_agreed (kept_before file c) (lock_count file at) k (byte == 1))
     (ap (λ n. nat_le n 1) says ∙ bit_right (get_or kept k false))
     (all_agreed (kept_before file c) (lock_count file at) k (byte == 1) earlier)
 

@@ -3,10 +3,12 @@ use Rattle.std.proofs.Common.{◌≡◌, ◌<◌, ◌≤◌, ℕ, ◌+◌, ◌*�
 use Rattle.std.proofs.lemmas.Bool.Decides.{nat_tests}
 use Rattle.std.proofs.lemmas.Grind.{flat_map-append}
 use Rattle.std.proofs.lemmas.List.{length-append, length-map, length-take, length-drop, map-append, drop_more, take_all}
+use Rattle.std.proofs.Math.Bool.{or-false}
 use Rattle.std.specs.Cmp.Lexicographic.{same_text}
 use Rattle.std.specs.Int.{w16, w32, to_le_bytes, from_bool}
 use Rattle.std.specs.List.{starts_with}
 use Rattle.std.specs.Option.{option_or}
+use Rattle.nor_cell.proofs.Logic.{both_pass}
 use Rattle.nor_cell.specs.Bits.{AreBytes}
 use Rattle.nor_cell.specs.Chip.{ChipState}
 use Rattle.nor_cell.specs.declared.device.Device.{Device}
@@ -21,7 +23,6 @@ use Rattle.nor_image.specs.declared.header.Version.{Version}
 use Rattle.nor_image.specs.declared.header.Version.TheVariants.{One, Two}
 use Rattle.nor_image.proofs.Putting.{records-take_more}
 use Rattle.nor_image.proofs.Agreeing.{each_lock_right}
-use Rattle.nor_image.proofs.Joined.{both}
 use Rattle.nor_image.proofs.LaneLocks.{locks_none, two_none}
 use Rattle.nor_image.proofs.LockBits.{length-locks_from, kept_in_two, kept_len, kept_after}
 use Rattle.nor_image.proofs.ReadBack.{length-place_bytes, length-lock_bytes, length-kept_bytes}
@@ -132,7 +133,7 @@ locks_stand Two file c at two bytes none whole =
     λ k below.
     let byte = slice_index file (first + 4 + k) in
     let right = field_passes file (first + 4 + k) 1 (is_lock_byte (kept_before file c) count k byte) (each_lock_right file (kept_before file c) (first + 4) count count k parts.1 below) in
-    few_is byte (both (nat_le byte 1) (is_agreed (kept_before file c) count k (byte == 1)) right).0 in
+    few_is byte (both_pass (nat_le byte 1) (is_agreed (kept_before file c) count k (byte == 1)) right).0 in
     let n = subst (λ (m : ℕ). Stand file first (to_le_bytes w32 m)) (number ∙ sym long) (u32_stands file first bytes (omega arith)) in
     let bits = subst (λ (ls : List Bool). Stand file (first + 4) (map from_bool ls)) (sym kept) (bits_stand file (first + 4) count bit (omega arith)) in
     stand_both (to_le_bytes w32 (length (kept_in file at))) (map from_bool (kept_in file at)) n bits
@@ -272,13 +273,9 @@ header_none file (suc n) none =
 eight_are : (file text : List ℕ) → length text ≡ 8 → starts_with nat_eq file text ≡ true → bytes_at file 0 8 ≡ text
 eight_are file text long h = ap (λ (n : ℕ). take n file) (sym long) ∙ sym (same_text text (take (length text) file) (sym h))
 
-or_false : (b : Bool) → (b || false) ≡ b
-or_false true = refl
-or_false false = refl
-
 magic_by : (file : List ℕ) (two : Bool) → is_magic file Two ≡ two → (is_magic file One || two) ≡ true → bytes_at file 0 8 ≡ magic_of (if two then Two else One)
 magic_by file true is known = eight_are file (magic_of Two) refl is
-magic_by file false is known = eight_are file (magic_of One) refl (sym (or_false (is_magic file One)) ∙ known)
+magic_by file false is known = eight_are file (magic_of One) refl (sym (or-false (is_magic file One)) ∙ known)
 
 code_back : (code : ℕ) → code ≤ 2 → code ≡ code_of_device (device_of_code code)
 code_back zero few = refl

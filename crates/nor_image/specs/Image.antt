@@ -12,10 +12,9 @@ use Rattle.nor_cell.specs.Wiring.{is_wiring}
 use Rattle.nor_cell.specs.declared.device.Device.{Device}
 use Rattle.nor_cell.specs.declared.device.Device.TheVariants.{X8, X16, X16Byte}
 use Rattle.nor_cell.specs.declared.device.Set.{Set}
-use Rattle.nor_cell.specs.declared.device.Set.TheVariants.{Intel, Amd}
 use Rattle.nor_bus.specs.Bus.{chip_at, no_chip}
 use Rattle.nor_io.specs.Fields.{u16_at, u32_at}
-use Rattle.nor_query.specs.Derived.{table_blocks}
+use Rattle.nor_query.specs.Derived.{keeps_locks, table_blocks}
 use Rattle.nor_image.specs.declared.error.ImageError.{ImageError}
 use Rattle.nor_image.specs.declared.error.ImageError.TheVariants.{BadMagic, BadHeader, Truncated, Trailing, SizeDiffers, NoMemory}
 use Rattle.nor_image.specs.declared.header.Version.{Version}
@@ -73,19 +72,14 @@ weak_in file at (suc k) = weak_in file at k ++ u32_at file (weak_field_at at k) 
 abbrev pub machine_of : List ℕ → Set
 machine_of file = set_of (table_in file 12)
 
--- whether a chip of this set with this table keeps its locks without power
-abbrev pub keeps_locks : Set → List ℕ → Bool
-keeps_locks Intel table = false
-keeps_locks Amd table = has_locks table
-
 -- The locks that a chip keeps without power: all that it has, or none.
 abbrev pub kept_locks : Set → List ℕ → List Bool → List Bool
-kept_locks set table locks = if keeps_locks set table then locks else []
+kept_locks set table locks = if keeps_locks set (has_locks table) then locks else []
 
 -- how many locks the record of a chip with this table stores: version 1 stores none
 abbrev pub stored_count : Version → Set → List ℕ → ℕ
 stored_count One set table = 0
-stored_count Two set table = if keeps_locks set table then length (table_blocks table) else 0
+stored_count Two set table = if keeps_locks set (has_locks table) then length (table_blocks table) else 0
 
 -- how many bytes they take: in version 2 their number, and a byte for each
 abbrev pub locks_len : Version → ℕ → ℕ
@@ -145,6 +139,13 @@ any_field at size = record { at = at; size = size; bad = None }
 abbrev pub tested_field : ℕ → ℕ → Bool → Field
 tested_field at size valid = record { at = at; size = size; bad = if valid then None else Some (BadHeader at) }
 
+-- a number of one byte, or of two, that may be so much at most
+abbrev pub byte_up_to_field : List ℕ → (at most : ℕ) → Field
+byte_up_to_field file at most = tested_field at 1 (nat_le (slice_index file at) most)
+
+abbrev pub u16_up_to_field : List ℕ → (at most : ℕ) → Field
+u16_up_to_field file at most = tested_field at 2 (nat_le (u16_at file at) most)
+
 -- a field that isn't whole goes before what it says
 abbrev pub refusal_of : List ℕ → Field → Option ImageError
 refusal_of file field = if nat_lt (length file) (field.at + field.size) then Some (Truncated (length file)) else field.bad
@@ -161,13 +162,20 @@ magic_field file = record { at = 0; size = 8; bad = if is_magic file One || is_m
 abbrev pub is_width : ℕ → Bool
 is_width n = n == 1 || n == 2 || n == 4 || n == 8
 
+abbrev pub width_field : List ℕ → Field
+width_field file = tested_field 8 1 (is_width (width_of file))
+
+-- the lanes have to fill the width
+abbrev pub lanes_field : List ℕ → Field
+lanes_field file = tested_field 10 1 (is_wiring (width_of file) (lanes_of_file file) (device_of file))
+
 -- the magic, the width, the device, the lanes, and a byte that is 0
 abbrev pub header_fields : List ℕ → List Field
 header_fields file =
     magic_field file
-    ∷ tested_field 8 1 (is_width (width_of file))
-    ∷ tested_field 9 1 (nat_le (slice_index file 9) 2)
-    ∷ tested_field 10 1 (is_wiring (width_of file) (lanes_of_file file) (device_of file))
+    ∷ width_field file
+    ∷ byte_up_to_field file 9 2
+    ∷ lanes_field file
     ∷ tested_field 11 1 (slice_index file 11 == 0)
     ∷ []
 
@@ -178,8 +186,8 @@ abbrev pub number_fields : List ℕ → ℕ → List Field
 number_fields file at =
     any_field at 4
     ∷ any_field (at + 4) 4
-    ∷ tested_field (at + 8) 1 (nat_le (slice_index file (at + 8)) 16)
-    ∷ tested_field (at + 9) 1 (nat_le (slice_index file (at + 9)) 1)
+    ∷ byte_up_to_field file (at + 8) 16
+    ∷ byte_up_to_field file (at + 9) 1
     ∷ tested_field (at + 10) 2 (nat_le (weak_count file at) 256)
     ∷ any_field (at + 12) 4
     ∷ any_field (at + 16) 4

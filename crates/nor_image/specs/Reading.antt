@@ -10,7 +10,7 @@ use Rattle.nor_cell.specs.declared.device.Device.{Device}
 use Rattle.nor_cell.specs.declared.device.Set.{Set}
 use Rattle.nor_bus.specs.Bus.{chip_at}
 use Rattle.nor_io.specs.Fields.{u32_at}
-use Rattle.nor_image.specs.Image.{version_of, device_of, width_of, lanes_of_file, weak_count, table_in, size_in, locks_of, locks_len, kept_locks, record_place, chip_in, is_size_by}
+use Rattle.nor_image.specs.Image.{Field, refusal_of, version_of, device_of, width_of, lanes_of_file, weak_count, table_in, size_in, locks_of, locks_len, kept_locks, record_place, chip_in, is_size_by}
 use Rattle.nor_image.specs.declared.error.ImageError.{ImageError}
 use Rattle.nor_image.specs.declared.error.ImageError.TheVariants.{BadMagic, BadHeader, Truncated, Trailing, SizeDiffers, NoMemory}
 use Rattle.nor_image.specs.declared.header.Header.{Header}
@@ -30,6 +30,10 @@ IsRefusal NoMemory = ⊥
 abbrev pub Reads : {A : Type 0} → Option ImageError → (A → Type 0) → Result A ImageError → Type 0
 Reads refusal P (Ok x) = (refusal ≡ None) × P x
 Reads refusal P (Err e) = (refusal ≡ Some e) × IsRefusal e
+
+-- the value of a field, or what the field is refused with
+abbrev pub ReadsField : {A : Type 0} → List ℕ → Field → A → Result A ImageError → Type 0
+ReadsField file field value result = Reads (refusal_of file field) (λ x. x ≡ value) result
 
 -- The same, but memory may run out.
 abbrev pub MayRead : {A : Type 0} → Option ImageError → (A → Type 0) → Result A ImageError → Type 0

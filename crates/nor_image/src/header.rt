@@ -1,7 +1,8 @@
-ghost use Rattle.std.specs.Prelude.{◌≡◌, slice_index, nat_le, codes};
-ghost use Rattle.nor_cell.specs.Wiring.{is_wiring};
-ghost use Rattle.nor_image.specs.Image.{magic_of, is_magic, version_of, magic_field, tested_field, refusal_of, first_refusal, header_fields, is_width, width_of, device_of, device_of_code, lanes_of_file};
-ghost use Rattle.nor_image.specs.Reading.{Reads, IsHeader};
+ghost use Rattle.std.specs.Prelude.{◌≡◌, codes};
+ghost use Rattle.nor_image.specs.Image.{magic_of, is_magic, version_of, width_of, device_of, device_of_code};
+ghost use Rattle.nor_image.specs.Image.{magic_field, width_field, byte_up_to_field, lanes_field, lanes_of_file};
+ghost use Rattle.nor_image.specs.Image.{first_refusal, header_fields};
+ghost use Rattle.nor_image.specs.Reading.{Reads, ReadsField, IsHeader};
 
 use crate::ImageError;
 use crate::fields::{byte_field, byte_up_to, bytes_field, check};
@@ -39,7 +40,7 @@ fn is_magic(file: &[u8], version: Version) -> bool
 }
 
 fn read_version(file: &[u8]) -> Result<Version, ImageError>
-    ensures { Reads (refusal_of file.now (magic_field file.now)) (λ version. version ≡ version_of file.now) result }
+    ensures { ReadsField file.now (magic_field file.now) (version_of file.now) result }
 {
     bytes_field(file, 0, 8)?;
     if is_magic(file, Version::Two) {
@@ -52,7 +53,7 @@ fn read_version(file: &[u8]) -> Result<Version, ImageError>
 }
 
 fn read_width(file: &[u8]) -> Result<u8, ImageError>
-    ensures { Reads (refusal_of file.now (tested_field 8 1 (is_width (width_of file.now)))) (λ width. width ≡ width_of file.now) result }
+    ensures { ReadsField file.now (width_field file.now) (width_of file.now) result }
 {
     let width = byte_field(file, 8)?;
     check(matches!(width, 1 | 2 | 4 | 8), 8)?;
@@ -70,7 +71,7 @@ fn device_of_code(code: u8) -> Device
 }
 
 fn read_device(file: &[u8]) -> Result<Device, ImageError>
-    ensures { Reads (refusal_of file.now (tested_field 9 1 (nat_le (slice_index file.now 9) 2))) (λ device. device ≡ device_of file.now) result }
+    ensures { ReadsField file.now (byte_up_to_field file.now 9 2) (device_of file.now) result }
 {
     let code = byte_up_to(file, 9, 2)?;
     Ok(device_of_code(code))
@@ -80,7 +81,8 @@ fn read_device(file: &[u8]) -> Result<Device, ImageError>
 fn read_geometry(file: &[u8], width: u8, device: Device) -> Result<Geometry, ImageError>
     requires width { width ≡ width_of file.now }
     requires device { device ≡ device_of file.now }
-    ensures { Reads (refusal_of file.now (tested_field 10 1 (is_wiring (width_of file.now) (lanes_of_file file.now) (device_of file.now)))) (λ g. g ≡ record { lanes = lanes_of_file file.now; device = device_of file.now }) result }
+    ensures { ReadsField file.now (lanes_field file.now)
+        (record { lanes = lanes_of_file file.now; device = device_of file.now }) result }
 {
     let lanes = byte_field(file, 10)?;
     make_geometry(width, lanes, device).map_err(|_| ImageError::BadHeader { at: 10 })

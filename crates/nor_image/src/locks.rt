@@ -1,7 +1,10 @@
 //! The locks of a record: a file of version 2 has those that chips keep without power.
 ghost use Rattle.std.specs.Prelude.{◌≡◌, ◌<◌, ◌≤◌, ◌+◌, ◌^◌, ◌==◌, length, slice_index};
-ghost use Rattle.nor_query.specs.Derived.{table_blocks};
-ghost use Rattle.nor_image.specs.Image.{count_field, each_lock, first_refusal, is_agreed, is_lock_byte, keeps_locks, kept_locks, lock_fields_of, locks_from, locks_len, refusal_of, stored_count, tested_field};
+ghost use Rattle.nor_query.specs.Derived.{keeps_locks, table_blocks};
+ghost use Rattle.nor_cell.specs.Table.{has_locks};
+ghost use Rattle.nor_image.specs.Image.{count_field, each_lock, is_agreed, is_lock_byte, kept_locks};
+ghost use Rattle.nor_image.specs.Image.{lock_fields_of, locks_from, locks_len, stored_count};
+ghost use Rattle.nor_image.specs.Image.{first_refusal, refusal_of, tested_field};
 ghost use Rattle.nor_image.specs.Reading.{Reads, MayRead, kept_of_each};
 
 use crate::ImageError;
@@ -12,7 +15,7 @@ use std::alloc::Global;
 
 // Whether a chip of this set with this table keeps its locks without power.
 fn keeps_locks(set: Set, table: &[u8; 512]) -> bool
-    ensures { result ≡ keeps_locks set table.now }
+    ensures { result ≡ keeps_locks set (has_locks table.now) }
 {
     match set {
         Set::Intel => false,

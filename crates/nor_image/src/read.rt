@@ -1,7 +1,8 @@
 ghost use Rattle.std.specs.Prelude.{◌≡◌, ◌<◌, ◌≤◌, ℕ, IfOk, IfErr, None};
 ghost use Rattle.nor_cell.specs.Bits.{AreBytes};
 ghost use Rattle.nor_bus.specs.Bus.{IsBank, lane as lane_of_bus, lanes_of};
-ghost use Rattle.nor_image.specs.Image.{header_fields, first_refusal, image_refusal, version_of, device_of, lanes_of_file, IsImageOf, IsCause};
+ghost use Rattle.nor_image.specs.Image.{header_fields, first_refusal, image_refusal, version_of};
+ghost use Rattle.nor_image.specs.Image.{device_of, lanes_of_file, IsImageOf, IsCause};
 ghost use Rattle.nor_image.specs.Loaded.{bus_of, loaded_width, IsFreshBus};
 ghost use Rattle.nor_image.specs.Reading.{MayRead, AreLanes, chips_of};
 ghost use Rattle.nor_image.specs.Written.{file_in, AreStorable, AgreeOnLocks};

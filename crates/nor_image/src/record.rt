@@ -2,8 +2,12 @@ ghost use Rattle.std.specs.Prelude.{◌≡◌, ◌<◌, ◌≤◌, ◌+◌, ◌^
 ghost use Rattle.nor_cell.specs.Bits.{AreBytes};
 ghost use Rattle.nor_cell.specs.Ranges.{is_chip_size, is_ascending_below, begin_units};
 ghost use Rattle.nor_io.specs.Fields.{u32_at};
-ghost use Rattle.nor_image.specs.Image.{any_field, bytes_at, is_size_by, weak_field, weak_field_at, least_weak, is_weak_place, number_fields, table_field, size_field, weak_fields, record_fields, refusal_of, first_refusal, version_of, device_of, machine_of, kept_before, table_in, size_in, weak_in, weak_count};
-ghost use Rattle.nor_image.specs.Reading.{Reads, MayRead, AreNumbers, AreStored, kept_of_each, record_len};
+ghost use Rattle.nor_image.specs.Image.{any_field, bytes_at, number_fields, table_field, size_field, is_size_by};
+ghost use Rattle.nor_image.specs.Image.{weak_field, weak_fields, weak_field_at, least_weak, is_weak_place};
+ghost use Rattle.nor_image.specs.Image.{record_fields, refusal_of, first_refusal, version_of, device_of, machine_of};
+ghost use Rattle.nor_image.specs.Image.{kept_before, table_in, size_in, weak_in};
+ghost use Rattle.nor_image.specs.Reading.{Reads, ReadsField, MayRead, AreNumbers, AreStored};
+ghost use Rattle.nor_image.specs.Reading.{kept_of_each, record_len};
 
 use crate::ImageError;
 use crate::blocks::blocks_of_table;
@@ -42,7 +46,8 @@ pub struct Numbers {
 
 fn read_numbers(file: &[u8], at: usize) -> Result<Numbers, ImageError>
     requires near { at ≤ 2 ^ 30 }
-    ensures { Reads (first_refusal file.now (number_fields file.now at)) (AreNumbers file.now at) result }
+    ensures { Reads (first_refusal file.now (number_fields file.now at))
+        (AreNumbers file.now at) result }
 {
     Ok(Numbers {
         pace_program: u32_field(file, at)?,
@@ -57,7 +62,7 @@ fn read_numbers(file: &[u8], at: usize) -> Result<Numbers, ImageError>
 
 fn read_table(file: &[u8], at: usize) -> Result<[u8; 512], ImageError>
     requires near { at ≤ 2 ^ 30 }
-    ensures read { Reads (refusal_of file.now (table_field at)) (λ table. table ≡ table_in file.now at) result }
+    ensures read { ReadsField file.now (table_field at) (table_in file.now at) result }
     ensures whole { IfOk result (λ _. at + 532 ≤ length file.now) }
 {
     let mut table = [0; 512];
@@ -80,7 +85,7 @@ fn read_size(file: &[u8], lane: u8, at: usize, table: &[u8; 512]) -> Result<u32,
     requires near { at ≤ 2 ^ 30 }
     requires behind_header { 12 ≤ at }
     requires table { table.now ≡ table_in file.now at }
-    ensures read { Reads (refusal_of file.now (size_field file.now lane at)) (λ size. size ≡ size_in file.now at) result }
+    ensures read { ReadsField file.now (size_field file.now lane at) (size_in file.now at) result }
     ensures sized { IfOk result (λ size. IsTrue (is_chip_size size)) }
     ensures fits { IfOk result (λ size. IsTrue (is_size_by table.now size)) }
     ensures same { IfOk result (λ size. size ≡ size_in file.now 12) }
@@ -115,7 +120,9 @@ fn read_weak_place(
     requires device { device ≡ device_of file.now }
     requires size { size ≡ size_in file.now at }
     requires least { least ≡ least_weak file.now at k }
-    ensures { Reads (refusal_of file.now (weak_field file.now at k)) (λ place. (place ≡ u32_at file.now (weak_field_at at k)) × IsTrue (is_weak_place device size least place)) result }
+    ensures { Reads (refusal_of file.now (weak_field file.now at k))
+        (λ place. (place ≡ u32_at file.now (weak_field_at at k))
+        × IsTrue (is_weak_place device size least place)) result }
 {
     let place_at = at + FIXED_PART + 4 * usize::from(k);
     let place = u32_field(file, place_at)?;
@@ -135,7 +142,8 @@ fn read_weak(
     requires near { at ≤ 2 ^ 30 }
     requires device { device ≡ device_of file.now }
     requires size { size ≡ size_in file.now at }
-    ensures read { MayRead (first_refusal file.now (weak_fields file.now at count)) (λ weak. weak.items ≡ weak_in file.now at count) result }
+    ensures read { MayRead (first_refusal file.now (weak_fields file.now at count))
+        (λ weak. weak.items ≡ weak_in file.now at count) result }
     ensures count { IfOk result (λ weak. length weak.items ≡ count) }
     ensures ascending { IfOk result (λ weak. IsTrue (is_ascending_below size weak.items)) }
     ensures whole { IfOk result (λ weak. IsTrue (begin_units device weak.items)) }
@@ -153,7 +161,8 @@ fn read_weak(
 // The cells of a chip of so many bytes.
 fn read_cells(alloc: Global, file: &[u8], at: usize, size: u32) -> Result<Vec<u8>, ImageError>
     requires near { at + size < 2 ^ 32 }
-    ensures read { MayRead (refusal_of file.now (any_field at size)) (λ cells. cells.items ≡ bytes_at file.now at size) result }
+    ensures read { MayRead (refusal_of file.now (any_field at size))
+        (λ cells. cells.items ≡ bytes_at file.now at size) result }
     ensures size { IfOk result (λ cells. length cells.items ≡ size) }
     ensures bytes { IfOk result (λ cells. AreBytes cells.items) }
 {

@@ -2,7 +2,8 @@ ghost use Rattle.std.specs.Prelude.{◌≡◌, ◌<◌, ◌≤◌, ◌+◌, ◌*
 ghost use Rattle.nor_cell.specs.Cells.{part_of};
 ghost use Rattle.nor_bus.specs.Bus.{IsWired, lanes_of, lane as lane_state};
 ghost use Rattle.nor_image.specs.Loaded.{bus_of, loaded_width};
-ghost use Rattle.nor_image.specs.Written.{code_of_device, header_bytes, place_bytes, lock_bytes, bank_set, record_bytes, file_of, Stores};
+ghost use Rattle.nor_image.specs.Written.{code_of_device, header_bytes, place_bytes, lock_bytes};
+ghost use Rattle.nor_image.specs.Written.{bank_set, record_bytes, file_of, Stores};
 ghost use Rattle.nor_image.specs.Writing.{numbers_of, record_of, Puts, HasNumbers, HasFields};
 ghost use Rattle.nor_image.specs.Reading.{record_len};
 
@@ -10,7 +11,7 @@ use crate::header::{Version, magic_of};
 use crate::locks::kept_locks;
 use crate::record::{FIRST_RECORD, TABLE, record_len};
 use crate::{Loaded, with_bank};
-use nor_bus::{Bus, SimBank, lane_bytes};
+use nor_bus::{Bus, SimBank};
 use nor_cell::{Cells, Chip, Device, NoMemory, Set, set_of};
 use nor_word::BusWord;
 use std::alloc::Global;
@@ -135,7 +136,7 @@ fn lanes_of<W: BusWord, C: Chip + Drop>(bank: &SimBank<W, C>) -> u8
 {
     // Every bus says that its chips fill its word.
     let _ = bank.units();
-    W::WIDTH / lane_bytes(device_of(bank))
+    bank.chips().len() as u8
 }
 
 // How many bytes the file of a bank has, if a number of 64 bits can say it.

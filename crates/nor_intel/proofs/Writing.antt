@@ -1,8 +1,9 @@
 -- A write changes neither what the chip is, nor its cells, nor how many locks there are.
 use Rattle.std.proofs.Common.{◌≡◌, ◌-◌, ◌%◌, ℕ, zero, suc, refl, ap, Bool, true, false, not, ◌==◌, ◌&&◌, ◌||◌, nat_lt, if◌then◌else◌, List, ◌++◌, length, length-set}
-use Rattle.nor_cell.specs.Chip.{ChipState, Step, Rest, ProgramNext, EraseNext, LockNext, BufferCount, BufferData, BufferConfirm, U1, U2, E1, E2, E3, LeaveNext, Status, Held, NotHeld, Holds, block_of, has_blocks, is_held, is_locked}
-use Rattle.nor_cell.specs.Look.{resumed_from}
-use Rattle.nor_cell.specs.Intel.{begin_program, begin_erase, commanded, lock_steps, steps, taken, set_lock, room, is_next, first_of, held_off}
+use Rattle.nor_cell.specs.Chip.{ChipState, Step, Rest, ProgramNext, EraseNext, LockNext, BufferCount, BufferData, BufferConfirm, Unlock1, Unlock2, Erase1, Erase2, Erase3, LeaveNext, Status, Held, NotHeld, Holds, block_of, has_blocks, is_held, is_locked, set_lock}
+use Rattle.nor_cell.specs.Look.{resumed_from, held_off}
+use Rattle.nor_cell.specs.Intel.{begin_program, begin_erase, commanded, lock_steps, steps}
+use Rattle.nor_cell.specs.Loads.{taken, room, is_next, first_of}
 use Rattle.nor_cell.specs.Steps.{Keeps}
 use Rattle.nor_cell.specs.Bits.{unit_bytes}
 use Rattle.nor_cell.specs.Table.{has_locks}
@@ -67,9 +68,9 @@ steps_keep (BufferData b missing first bytes) s u v =
     either (is_next s b first bytes u) s _ _
     (taken_keeps b (missing - 1) (first_of first bytes u) (bytes ++ unit_bytes s.part.device v) s) (alike s _ refl refl refl)
 steps_keep (BufferConfirm first bytes) s u v = either (v % 256 == 0xD0) s _ _ (program_keeps Buffer first bytes s) (alike s _ refl refl refl)
-steps_keep U1 s u v = alike s s refl refl refl
-steps_keep U2 s u v = alike s s refl refl refl
-steps_keep E1 s u v = alike s s refl refl refl
-steps_keep E2 s u v = alike s s refl refl refl
-steps_keep E3 s u v = alike s s refl refl refl
+steps_keep Unlock1 s u v = alike s s refl refl refl
+steps_keep Unlock2 s u v = alike s s refl refl refl
+steps_keep Erase1 s u v = alike s s refl refl refl
+steps_keep Erase2 s u v = alike s s refl refl refl
+steps_keep Erase3 s u v = alike s s refl refl refl
 steps_keep LeaveNext s u v = alike s s refl refl refl

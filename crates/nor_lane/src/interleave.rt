@@ -17,7 +17,8 @@ pub fn split(g: Geometry, at: u32) -> (u8, u32)
 
     // Byte `at` of the bank is this byte of this chip, and no other byte of any chip.
     ensures there { bank_place g.lanes (unit_len g.device) result.0 result.1 ≡ at }
-    ensures alone { (c p : ℕ) → c < g.lanes → bank_place g.lanes (unit_len g.device) c p ≡ at → (c ≡ result.0) × (p ≡ result.1) }
+    ensures alone { (c p : ℕ) → c < g.lanes → bank_place g.lanes (unit_len g.device) c p ≡ at
+        → (c ≡ result.0) × (p ≡ result.1) }
 {
     let unit = unit_bytes(g.device);
     let lanes = u32::from(g.lanes);

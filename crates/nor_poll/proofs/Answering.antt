@@ -1,10 +1,9 @@
 -- What reads of a chip of set 0002 tell of it.
-use Rattle.std.proofs.Common.{◌≡◌, ◌≢◌, ◌+◌, ◌*◌, ◌-◌, ◌<◌, ◌≤◌, ◌==◌, ◌⊎◌, inl, inr, ℕ, zero, suc, refl, sym, ap, subst, ◌∙◌, arith, lit<, nat_lt, bit_and, Bool, true, false, List, length, slice_index, is_some, unwrap_or, if◌then◌else◌}
+use Rattle.std.proofs.Common.{◌≡◌, ◌≢◌, ◌+◌, ◌*◌, ◌-◌, ◌<◌, ◌≤◌, ◌==◌, ◌⊎◌, inl, inr, ℕ, zero, suc, refl, sym, ap, subst, ◌∙◌, arith, nat_lt, bit_and, Bool, true, false, List, length, slice_index, is_some, unwrap_or, if◌then◌else◌}
 use Rattle.std.proofs.lemmas.Bool.{cases_Bool, cases_lt}
 use Rattle.std.proofs.lemmas.Nat.{and_le_r}
 use Rattle.nor_cell.specs.Bits.{unit_len, unit_at}
-use Rattle.nor_cell.specs.Chip.{ChipState, Part, Job, Idle, Program, Erase, Pausing, Held, Flags, Fault, NoFault, TimeFault, AbortFault, runs, place}
-use Rattle.nor_cell.specs.Intel.{in_held}
+use Rattle.nor_cell.specs.Chip.{ChipState, Part, Job, Idle, Program, Erase, Pausing, Held, Flags, Fault, NoFault, TimeFault, AbortFault, runs, place, holds_at}
 use Rattle.nor_cell.specs.Amd.{AmdReads, is_fault, shown, toggled, last_low}
 use Rattle.nor_cell.specs.Look.{Look, Rests, Works, Pauses, EndsProgram, EndsErase, look, look_at, looked, job_after, held_after, broken_of, break_of, LooksTo, Programmed, fault_with, flags_with}
 use Rattle.nor_cell.specs.Steps.{Reads, reads_of}
@@ -12,12 +11,14 @@ use Rattle.nor_cell.specs.declared.device.Device.{Device}
 use Rattle.nor_cell.specs.declared.device.Device.TheVariants.{X8, X16, X16Byte}
 use Rattle.nor_cell.specs.declared.device.Set.{Set}
 use Rattle.nor_cell.specs.declared.device.Set.TheVariants.{Amd}
+use Rattle.nor_cell.proofs.Logic.{is_below, some_bytes}
 use Rattle.nor_poll.specs.Told.{IsLooked, ToldAt, HasLeft, seen_fault, seen_idle}
 use Rattle.nor_poll.specs.Toggles.{pair_says, over_says, works_on, toggles, names_job, EndsAt, ShowsToggle, TellsToggle}
 use Rattle.nor_poll.specs.declared.watch.Seen.{Seen}
 use Rattle.nor_poll.specs.declared.watch.Seen.TheVariants.{Working, Ready, Suspended, Broken}
 use Rattle.nor_poll.specs.declared.watch.Broke.TheVariants.{Time, Abort}
-use Rattle.nor_poll.proofs.Looking.{looked_by, same_flags, same_fault}
+use Rattle.nor_cell.proofs.Between.{same_flags, same_fault}
+use Rattle.nor_poll.proofs.Looking.{looked_by}
 use Rattle.nor_poll.proofs.Losing.{stop_of}
 use Rattle.nor_poll.proofs.Telling.{ran}
 use Rattle.nor_poll.proofs.Toggling.{program_status, erase_status, idle_pair, program_work, erase_work, IdleBits, idle_bits, erase_over, program_over}
@@ -26,7 +27,7 @@ pub amd_reads : (s : ChipState) (u a : ℕ) (t : ChipState) → s.part.set ≡ A
 amd_reads s u a t set h = subst (λ (k : Set). reads_of k s u a t) set h
 
 abbrev here_in : ℕ → ChipState → Bool
-here_in u s = in_held s.held s.part (place s.part u)
+here_in u s = holds_at s.held s.part.blocks (place s.part u)
 
 -- ---- a chip that polls tell of stays one
 
@@ -130,7 +131,7 @@ idle_says u m a b t shows idle first h =
     let e = idle_next u m b t shows.set idle h in
     let second : b ≡ shown (toggled u m) u = h.answers ∙ ap (λ (x : ChipState). shown x u) e in
     let says = idle_pair u m idle shows.fault shows.mode in
-    let last : seen_fault m.fault (here_in u m) ≡ seen_fault t.fault (here_in u t) = sym (ap (λ (x : ChipState). seen_fault x.fault (in_held x.held x.part (place x.part u))) e) in (
+    let last : seen_fault m.fault (here_in u m) ≡ seen_fault t.fault (here_in u t) = sym (ap (λ (x : ChipState). seen_fault x.fault (holds_at x.held x.part.blocks (place x.part u))) e) in (
       ap (λ (k : ℕ). pair_says k b) first ∙ (ap (pair_says (shown m u)) second ∙ (says.0 ∙ last)),
       ap (λ (k : ℕ). over_says k b) first ∙ (ap (over_says (shown m u)) second ∙ (says.1 ∙ last)),
       ap (λ (x : ChipState). x.job) e ∙ idle,
@@ -171,9 +172,6 @@ whole_of : (b : Bool) (p : ℕ) (bytes : List ℕ) (fault : Fault) → fault_wit
 whole_of true p bytes fault h = cc
 whole_of false p bytes fault h = refl
 
-is_below : (n k : ℕ) → nat_lt n k ≡ true → n < k
-is_below n k h = grind (arith, h)
-
 stored_low : (p : ℕ) (bytes : List ℕ) (u : ℕ) (m : ChipState) (cells : List ℕ) → Programmed (unit_len m.part.device) m.part.weak p bytes m.cells cells
     → is_some (break_of (unit_len m.part.device) m.part.weak p bytes m.cells) ≡ false → p ≤ place m.part u → place m.part u + unit_len m.part.device ≡ p + length bytes
     → nat_lt (last_low m.part bytes) 0x80 ≡ true → 0 < unit_len m.part.device → slice_index cells (place m.part u) < 0x80
@@ -189,23 +187,18 @@ stored_low p bytes u m cells h whole from last low some =
     let le = and_le_r (slice_index m.cells q) (slice_index bytes (q - p)) in
     omega (arith, is, le, datum)
 
-some_bytes : (device : Device) → 0 < unit_len device
-some_bytes X8 = lit< tt
-some_bytes X16 = lit< tt
-some_bytes X16Byte = lit< tt
-
 now_idle : (u a b : ℕ) (t : ChipState) → t.job ≡ Idle → (pair_says a b ≡ Working) ⊎ (pair_says a b ≡ seen_fault t.fault (here_in u t)) → WorksOrEnds u a b t
 now_idle u a b t idle says = record { on = λ running. absurd (runs_idle t.job idle running); ends = λ e. says }
 
 -- an erase that ended, or was suspended
-erase_ended : (u a b : ℕ) (m : ChipState) (t : ChipState) (l : Look) (j : Job) → m.job ≡ j → shown (record m { job = j }) u ≡ erase_status m.t6 m.t2 → job_after l ≡ Idle → look m ≡ l
+erase_ended : (u a b : ℕ) (m : ChipState) (t : ChipState) (l : Look) (j : Job) → m.job ≡ j → shown (record m { job = j }) u ≡ erase_status m.toggle_6 m.toggle_2 → job_after l ≡ Idle → look m ≡ l
     → ShowsToggle u t → a ≡ shown m u → AmdReads m u b t → WorksOrEnds u a b t
 erase_ended u a b m t l j is status ends e shows first h =
     let idle : t.job ≡ Idle = ap (λ (x : ChipState). x.job) (next_by u m b t l e h) ∙ ends in
-    let one : a ≡ erase_status m.t6 m.t2 = first ∙ (ap (λ (x : Job). shown (record m { job = x }) u) is ∙ status) in
+    let one : a ≡ erase_status m.toggle_6 m.toggle_2 = first ∙ (ap (λ (x : Job). shown (record m { job = x }) u) is ∙ status) in
     let it = seen_fault t.fault (here_in u t) in
     let bits = subst (λ (k : ℕ). IdleBits t.fault (here_in u t) (unit_at t.part.device t.cells u) k) (sym h.answers) (idle_bits u t idle shows.fault shows.mode) in
-    now_idle u a b t idle (subst (λ (k : ℕ). (pair_says k b ≡ Working) ⊎ (pair_says k b ≡ it)) (sym one) (erase_over m.t6 m.t2 t.fault (here_in u t) (unit_at t.part.device t.cells u) b bits))
+    now_idle u a b t idle (subst (λ (k : ℕ). (pair_says k b ≡ Working) ⊎ (pair_says k b ≡ it)) (sym one) (erase_over m.toggle_6 m.toggle_2 t.fault (here_in u t) (unit_at t.part.device t.cells u) b bits))
 
 -- a program that ended
 program_ended : (u a b p : ℕ) (bytes : List ℕ) (m t : ChipState) → m.part.set ≡ Amd → m.job ≡ Program p bytes 0 → look m ≡ EndsProgram p bytes → EndsAt (Program p bytes 0) m.held m.part u
@@ -214,9 +207,9 @@ program_ended u a b p bytes m t set is e at shows first h =
     let rest = next_by u m b t (EndsProgram p bytes) e h in
     let idle : t.job ≡ Idle = ap (λ (x : ChipState). x.job) rest in
     let x = nat_lt (last_low m.part bytes) 0x80 in
-    let one : a ≡ program_status x m.t6 = first ∙ ap (λ (j : Job). shown (record m { job = j }) u) is in
+    let one : a ≡ program_status x m.toggle_6 = first ∙ ap (λ (j : Job). shown (record m { job = j }) u) is in
     let device : t.part.device ≡ m.part.device = ap (λ (y : ChipState). y.part.device) rest in
-    let free : here_in u t ≡ false = ap (λ (y : ChipState). in_held y.held y.part (place y.part u)) rest ∙ at.2 in
+    let free : here_in u t ≡ false = ap (λ (y : ChipState). holds_at y.held y.part.blocks (place y.part u)) rest ∙ at.2 in
     let it = seen_fault t.fault (here_in u t) in
     let unit = unit_at t.part.device t.cells u in
     let bits : IdleBits t.fault (here_in u t) unit b = subst (λ (k : ℕ). IdleBits t.fault (here_in u t) unit k) (sym h.answers) (idle_bits u t idle shows.fault shows.mode) in
@@ -229,36 +222,36 @@ program_ended u a b p bytes m t set is e at shows first h =
     (low_apart m.part.device t.cells u (stored_low p bytes u m t.cells stored (whole_of broken p bytes m.fault (sym fault ∙ none)) at.0 at.1 clear (some_bytes m.part.device))) in
     now_idle u a b t idle
     (subst (λ (k : ℕ). (pair_says k b ≡ Working) ⊎ (pair_says k b ≡ it)) (sym one)
-    (subst (λ (here : Bool). (pair_says (program_status x m.t6) b ≡ Working) ⊎ (pair_says (program_status x m.t6) b ≡ seen_fault t.fault here)) (sym free)
-    (program_over x m.t6 t.fault unit b (subst (λ (here : Bool). IdleBits t.fault here unit b) free bits) far)))
+    (subst (λ (here : Bool). (pair_says (program_status x m.toggle_6) b ≡ Working) ⊎ (pair_says (program_status x m.toggle_6) b ≡ seen_fault t.fault here)) (sym free)
+    (program_over x m.toggle_6 t.fault unit b (subst (λ (here : Bool). IdleBits t.fault here unit b) free bits) far)))
 
 run_by : (stuck : Bool) (j : Job) (u a b : ℕ) (m t : ChipState) → ShowsToggle u m → ShowsToggle u t → m.part.stuck ≡ stuck → m.job ≡ j → a ≡ shown m u → AmdReads m u b t → runs j ≡ true
     → WorksOrEnds u a b t
 run_by stuck Idle u a b m t sm st is ej first h running = cc
 run_by true (Program p bytes left) u a b m t sm st is ej first h running =
     let e : look m ≡ Works (Program p bytes left) = ap (look_at m.part.stuck) ej ∙ ap (λ (s : Bool). look_at s (Program p bytes left)) is in
-    work_on u m t a b (Program p bytes left) (Program p bytes left) ej first h.answers (works_next u m b t (Program p bytes left) sm.set e h) (program_work _ m.t6)
+    work_on u m t a b (Program p bytes left) (Program p bytes left) ej first h.answers (works_next u m b t (Program p bytes left) sm.set e h) (program_work _ m.toggle_6)
 run_by false (Program p bytes (suc left)) u a b m t sm st is ej first h running =
     let e : look m ≡ Works (Program p bytes left) = ap (look_at m.part.stuck) ej ∙ ap (λ (s : Bool). look_at s (Program p bytes (suc left))) is in
-    work_on u m t a b (Program p bytes (suc left)) (Program p bytes left) ej first h.answers (works_next u m b t (Program p bytes left) sm.set e h) (program_work _ m.t6)
+    work_on u m t a b (Program p bytes (suc left)) (Program p bytes left) ej first h.answers (works_next u m b t (Program p bytes left) sm.set e h) (program_work _ m.toggle_6)
 run_by false (Program p bytes zero) u a b m t sm st is ej first h running =
     let e : look m ≡ EndsProgram p bytes = ap (look_at m.part.stuck) ej ∙ ap (λ (s : Bool). look_at s (Program p bytes zero)) is in
     program_ended u a b p bytes m t sm.set ej e (subst (λ (j : Job). EndsAt j m.held m.part u) ej sm.ends) st first h
 run_by true (Erase target left) u a b m t sm st is ej first h running =
     let e : look m ≡ Works (Erase target left) = ap (look_at m.part.stuck) ej ∙ ap (λ (s : Bool). look_at s (Erase target left)) is in
-    work_on u m t a b (Erase target left) (Erase target left) ej first h.answers (works_next u m b t (Erase target left) sm.set e h) (erase_work m.t6 m.t2)
+    work_on u m t a b (Erase target left) (Erase target left) ej first h.answers (works_next u m b t (Erase target left) sm.set e h) (erase_work m.toggle_6 m.toggle_2)
 run_by false (Erase target (suc left)) u a b m t sm st is ej first h running =
     let e : look m ≡ Works (Erase target left) = ap (look_at m.part.stuck) ej ∙ ap (λ (s : Bool). look_at s (Erase target (suc left))) is in
-    work_on u m t a b (Erase target (suc left)) (Erase target left) ej first h.answers (works_next u m b t (Erase target left) sm.set e h) (erase_work m.t6 m.t2)
+    work_on u m t a b (Erase target (suc left)) (Erase target left) ej first h.answers (works_next u m b t (Erase target left) sm.set e h) (erase_work m.toggle_6 m.toggle_2)
 run_by false (Erase target zero) u a b m t sm st is ej first h running =
     let e : look m ≡ EndsErase target = ap (look_at m.part.stuck) ej ∙ ap (λ (s : Bool). look_at s (Erase target zero)) is in
     erase_ended u a b m t (EndsErase target) (Erase target zero) ej refl refl e st first h
 run_by true (Pausing k wait left) u a b m t sm st is ej first h running =
     let e : look m ≡ Works (Pausing k wait left) = ap (look_at m.part.stuck) ej ∙ ap (λ (s : Bool). look_at s (Pausing k wait left)) is in
-    work_on u m t a b (Pausing k wait left) (Pausing k wait left) ej first h.answers (works_next u m b t (Pausing k wait left) sm.set e h) (erase_work m.t6 m.t2)
+    work_on u m t a b (Pausing k wait left) (Pausing k wait left) ej first h.answers (works_next u m b t (Pausing k wait left) sm.set e h) (erase_work m.toggle_6 m.toggle_2)
 run_by false (Pausing k (suc wait) left) u a b m t sm st is ej first h running =
     let e : look m ≡ Works (Pausing k wait left) = ap (look_at m.part.stuck) ej ∙ ap (λ (s : Bool). look_at s (Pausing k (suc wait) left)) is in
-    work_on u m t a b (Pausing k (suc wait) left) (Pausing k wait left) ej first h.answers (works_next u m b t (Pausing k wait left) sm.set e h) (erase_work m.t6 m.t2)
+    work_on u m t a b (Pausing k (suc wait) left) (Pausing k wait left) ej first h.answers (works_next u m b t (Pausing k wait left) sm.set e h) (erase_work m.toggle_6 m.toggle_2)
 run_by false (Pausing k zero left) u a b m t sm st is ej first h running =
     let e : look m ≡ Pauses k left = ap (look_at m.part.stuck) ej ∙ ap (λ (s : Bool). look_at s (Pausing k zero left)) is in
     erase_ended u a b m t (Pauses k left) (Pausing k zero left) ej refl refl e st first h

@@ -1,14 +1,14 @@
 -- A look at an erase, of one lane, by either set.
 use Rattle.std.proofs.Common.{◌≡◌, ◌≢◌, ◌+◌, ◌<◌, ◌≤◌, ◌⊎◌, inl, inr, ℕ, refl, sym, subst, ap, arith, ◌∙◌, Bool, true, false, List, slice_index, if◌then◌else◌}
-use Rattle.nor_cell.specs.Chip.{ChipState, Part, Fault, Mode, Array, Status, Rest, Job, Idle, Erase, Target, Held, NotHeld, runs, is_within, covered}
-use Rattle.nor_cell.specs.Amd.{is_fault, is_time}
-use Rattle.nor_cell.specs.Resting.{can_reset}
-use Rattle.nor_cell.specs.Chip.{TimeFault, Query, Ident, Locks}
+use Rattle.nor_cell.specs.Chip.{ChipState, Part, Fault, Mode, Status, Job, Idle, Erase, Target, Held, NotHeld, runs, is_within, covered}
+use Rattle.nor_cell.specs.Amd.{is_time}
+use Rattle.nor_cell.specs.Between.{can_reset, Waits}
+use Rattle.nor_cell.proofs.Between.{same_fault, resets_still, resets_broken, waits_rests}
 use Rattle.nor_cell.specs.Look.{fault_with, is_weak}
 use Rattle.nor_cell.specs.declared.device.Set.{Set}
 use Rattle.nor_cell.specs.declared.device.Set.TheVariants.{Intel, Amd}
 use Rattle.nor_poll.specs.Codes.{cycles_of, after_cycles, DarkensIn}
-use Rattle.nor_poll.specs.Erase.{TakesLook, LooksOn, ChangesWithinErase, ShowsFault, next_state, erase_polling, look_reads}
+use Rattle.nor_poll.specs.Erase.{TakesLook, LooksOn, ChangesWithinErase, next_state, erase_polling, look_reads}
 use Rattle.nor_bus.specs.Driven.{Darkens}
 use Rattle.nor_poll.specs.Polled.{Answers, most_reads}
 use Rattle.nor_poll.specs.declared.polling.Polling.{Polling}
@@ -24,7 +24,7 @@ use Rattle.nor_poll.specs.declared.watch.Seen.{Seen}
 use Rattle.nor_poll.specs.declared.watch.Seen.TheVariants.{Working, Ready, Suspended as SeenSuspended, Broken as SeenBroken}
 use Rattle.nor_poll.proofs.Codes1.{shows_idle, shows_busy}
 use Rattle.nor_poll.proofs.Programming.{toggling}
-use Rattle.nor_poll.proofs.Erasing.{StillErases, HasErased, Erases, erases_after, erased, breaks_off, broke, idle_after, outcome, next_idle, within_still, within_ended, within_idle, within_then, dark_erasing, dark_resting}
+use Rattle.nor_poll.proofs.Erasing.{StillErases, HasErased, Erases, erases_after, breaks_off, broke, idle_after, outcome, next_idle, within_still, within_ended, within_idle, within_then, dark_erasing, dark_resting}
 
 -- ---- the status is shown
 
@@ -43,23 +43,23 @@ pub record ShownAs (set : Set) (s m : ChipState) : Type 0 where
   pub status : set ≡ Intel → mode ≡ Status
   pub same : set ≡ Amd → mode ≡ s.mode
 
-shown_by : (set : Set) (u : ℕ) (target : Target) (s m : ChipState) → s.part.set ≡ set → s.step ≡ Rest → ErasesOn target s ⊎ (s.job ≡ Idle) → m ≡ after_cycles u (cycles_of set ShowStatus) s → ShownAs set s m
-shown_by Intel u target s m set step (inl on) is = record {
+shown_by : (set : Set) (u : ℕ) (target : Target) (s m : ChipState) → Waits set s → ErasesOn target s ⊎ (s.job ≡ Idle) → m ≡ after_cycles u (cycles_of set ShowStatus) s → ShownAs set s m
+shown_by Intel u target s m waits (inl on) is = record {
   mode = s.mode;
-  is = is ∙ shows_busy u s target on.left set on.job;
-  status = λ e. subst (λ (k : Set). ShowsErase k s) set on.shows;
+  is = is ∙ shows_busy u s target on.left waits.set on.job;
+  status = λ e. subst (λ (k : Set). ShowsErase k s) waits.set on.shows;
   same = λ e. refl;
 }
-shown_by Intel u target s m set step (inr idle) is = record {
+shown_by Intel u target s m waits (inr idle) is = record {
   mode = Status;
-  is = is ∙ shows_idle u s (record { set = set; step = step; job = idle; resets = refl });
+  is = is ∙ shows_idle u s (waits_rests Intel s waits idle);
   status = λ e. refl;
   same = λ e. cc;
 }
-shown_by Amd u target s m set step now is = record { mode = s.mode; is = is; status = λ e. cc; same = λ e. refl }
+shown_by Amd u target s m waits now is = record { mode = s.mode; is = is; status = λ e. cc; same = λ e. refl }
 
 pub shown : (set : Set) (u : ℕ) (target : Target) (state : LaneState) (s m : ChipState) → TakesLook set target state s → m ≡ after_cycles u (cycles_of set ShowStatus) s → ShownAs set s m
-shown set u target state s m takes is = shown_by set u target s m takes.set_is takes.step (stands state target s takes.is takes.awake).0 is
+shown set u target state s m takes is = shown_by set u target s m takes.waits (stands state target s takes.is takes.awake).0 is
 
 -- so it answers the poll
 ends_at : (job : Job) (held : Held) (part : Part) (u : ℕ) (target : Target) (left : ℕ) → (job ≡ Erase target left) ⊎ (job ≡ Idle) → EndsAt job held part u
@@ -72,13 +72,13 @@ job_of target s (inr idle) = (0, inr idle)
 
 answers_as : {W : Type 0} (bytes : W → List ℕ) (set : Set) (u c : ℕ) (target : Target) (state : LaneState) (mode : Mode) (s : ChipState) → TakesLook set target state s → (set ≡ Intel → mode ≡ Status) → (set ≡ Amd → mode ≡ s.mode)
     → Answers bytes (erase_polling set) u c (record s { mode = mode })
-answers_as bytes Intel u c target state mode s takes status same = record { set = takes.set_is; mode = status refl }
+answers_as bytes Intel u c target state mode s takes status same = record { set = takes.waits.set; mode = status refl }
 answers_as bytes Amd u c target state mode s takes status same =
     let j = job_of target s (stands state target s takes.is takes.awake).0 in
     record {
-      set = takes.set_is;
-      fault = takes.shows.0;
-      mode = λ none. same refl ∙ takes.shows.1 none;
+      set = takes.waits.set;
+      fault = takes.names;
+      mode = λ none. same refl ∙ takes.waits.mode refl;
       ends = ends_at s.job s.held s.part u target j.0 j.1;
     }
 
@@ -88,14 +88,23 @@ answers bytes set u c target state s m takes now = subst (λ (x : ChipState). An
 
 -- ---- reads
 
+within_mode : (target : Target) (mode : Mode) (s t : ChipState) → ChangesWithinErase target (record s { mode = mode }) t → ChangesWithinErase target s t
+within_mode target mode s t h = record {
+  remains = record { part = h.remains.part; size = h.remains.size; locks = h.remains.locks; erases = h.remains.erases };
+  held = h.held;
+  suspends = h.suspends;
+  outside = h.outside;
+  error = h.error;
+}
+
 -- What reads leave of a lane, wherever it was: it can be looked at again but for where it is.
 pub record IsRead (set : Set) (target : Target) (n : ℕ) (s t : ChipState) : Type 0 where
-  pub set_is : t.part.set ≡ set
-  pub step : t.step ≡ Rest
-  pub shows : ShowsFault set t
+  pub waits : Waits set t
+  pub names : names_job t.fault ≡ true
   pub keeps : ChangesWithinErase target s t
   pub held : t.held ≡ NotHeld
   pub fewer : s.part.stuck ≡ false → 0 < erase_left s → erase_left t < erase_left s
+  pub most : erase_left t ≤ erase_left s
   pub few : erase_left s ≤ erase_left t + n
 
 -- Where a lane that ran is then: it erases on, or has ended, and had fewer reads left than were made.
@@ -108,118 +117,87 @@ left_of job held target left is none = rw (is, none) (omega arith)
 none_of : (job : Job) (held : Held) → job ≡ Idle → held ≡ NotHeld → reads_left job + held_left held ≡ 0
 none_of job held is none = rw (is, none) refl
 
--- of a chip that runs nothing
-shows_idle_fault : (set : Set) (mode : Mode) (s t : ChipState) → ShowsFault set s → (set ≡ Amd → mode ≡ s.mode) → t ≡ toggling t.t6 t.t2 (record s { mode = mode; job = Idle }) → ShowsFault set t
-shows_idle_fault Intel mode s t shows same is = tt
-shows_idle_fault Amd mode s t shows same is = (
-  ap (λ (x : ChipState). names_job x.fault) is ∙ shows.0,
-  λ none. ap (λ (x : ChipState). x.mode) is ∙ (same refl ∙ shows.1 (sym (ap (λ (x : ChipState). is_fault x.fault) is) ∙ none)),
-  ap (λ (m : Mode). can_reset Amd m t.fault) (ap (λ (x : ChipState). x.mode) is ∙ same refl) ∙ (ap (λ (x : ChipState). can_reset Amd s.mode x.fault) is ∙ shows.2),
-)
+-- it waits still, in another mode and perhaps with a broken job
+pub waits_after : (set : Set) (mode : Mode) (broken : Job) (s t : ChipState) → Waits set s → (set ≡ Amd → mode ≡ s.mode) → t.part ≡ s.part → t.step ≡ s.step → t.mode ≡ mode → t.fault ≡ fault_with set broken s.fault → Waits set t
+waits_after set mode broken s t waits same part step shown fault = record {
+  set = ap (λ (x : Part). x.set) part ∙ waits.set;
+  step = step ∙ waits.step;
+  mode = λ amd. shown ∙ (same amd ∙ waits.mode amd);
+  resets = ap (can_reset set t.mode) fault ∙ resets_broken set t.mode broken s.fault (resets_still set s.mode t.mode s.fault waits.resets (λ amd. shown ∙ same amd));
+}
 
-read_idle : (set : Set) (target : Target) (n : ℕ) (mode : Mode) (s t : ChipState) → s.part.set ≡ set → s.step ≡ Rest → ShowsFault set s → (set ≡ Amd → mode ≡ s.mode) → s.job ≡ Idle → s.held ≡ NotHeld
-    → t ≡ toggling t.t6 t.t2 (record s { mode = mode; job = Idle }) → IsRead set target n s t
-read_idle set target n mode s t set_is step shows same job held is =
+waits_same : (set : Set) (mode : Mode) (job : Job) (s t : ChipState) → Waits set s → (set ≡ Amd → mode ≡ s.mode) → t ≡ toggling t.toggle_6 t.toggle_2 (record s { mode = mode; job = job }) → Waits set t
+waits_same set mode job s t waits same is =
+    waits_after set mode Idle s t waits same (ap (λ (x : ChipState). x.part) is) (ap (λ (x : ChipState). x.step) is) (ap (λ (x : ChipState). x.mode) is)
+    (ap (λ (x : ChipState). x.fault) is ∙ sym (same_fault set s.fault))
+
+-- of a chip that runs nothing
+read_idle : (set : Set) (target : Target) (n : ℕ) (mode : Mode) (s t : ChipState) → Waits set s → names_job s.fault ≡ true → (set ≡ Amd → mode ≡ s.mode) → s.job ≡ Idle → s.held ≡ NotHeld
+    → t ≡ toggling t.toggle_6 t.toggle_2 (record s { mode = mode; job = Idle }) → IsRead set target n s t
+read_idle set target n mode s t waits names same job held is =
     let held_t = ap (λ (x : ChipState). x.held) is ∙ held in
     let before = none_of s.job s.held job held in
-    let keeps : ChangesWithinErase target s t = record {
-      part = ap (λ (x : ChipState). x.part) is;
-      locks = ap (λ (x : ChipState). x.locks) is;
-      held = ap (λ (x : ChipState). x.held) is;
-      suspends = ap (λ (x : ChipState). x.suspends) is;
-      erases = ap (λ (x : ChipState). x.erases) is;
-      size = (within_idle target (record s { mode = mode }) t is).size;
-      outside = (within_idle target (record s { mode = mode }) t is).outside;
-    } in
+    let after = none_of t.job t.held (ap (λ (x : ChipState). x.job) is) held_t in
     record {
-      set_is = ap (λ (x : ChipState). x.part.set) is ∙ set_is;
-      step = ap (λ (x : ChipState). x.step) is ∙ step;
-      shows = shows_idle_fault set mode s t shows same is;
-      keeps = keeps;
+      waits = waits_same set mode Idle s t waits same is;
+      names = ap (λ (x : ChipState). names_job x.fault) is ∙ names;
+      keeps = within_mode target mode s t (within_idle target (record s { mode = mode }) t is);
       held = held_t;
       fewer = λ free some. absurd (omega (arith, some, before));
+      most = omega (arith, after);
       few = omega (arith, before);
     }
 
 -- of a chip that erases on
-shows_still_fault : (set : Set) (mode : Mode) (job : Job) (s t : ChipState) → ShowsFault set s → (set ≡ Amd → mode ≡ s.mode) → t ≡ toggling t.t6 t.t2 (record s { mode = mode; job = job }) → ShowsFault set t
-shows_still_fault Intel mode job s t shows same is = tt
-shows_still_fault Amd mode job s t shows same is = (
-  ap (λ (x : ChipState). names_job x.fault) is ∙ shows.0,
-  λ none. ap (λ (x : ChipState). x.mode) is ∙ (same refl ∙ shows.1 (sym (ap (λ (x : ChipState). is_fault x.fault) is) ∙ none)),
-  ap (λ (m : Mode). can_reset Amd m t.fault) (ap (λ (x : ChipState). x.mode) is ∙ same refl) ∙ (ap (λ (x : ChipState). can_reset Amd s.mode x.fault) is ∙ shows.2),
-)
-
-read_still : (set : Set) (target : Target) (left n : ℕ) (mode : Mode) (s t : ChipState) → 0 < n → s.part.set ≡ set → s.step ≡ Rest → ShowsFault set s → (set ≡ Amd → mode ≡ s.mode) → s.job ≡ Erase target left → s.held ≡ NotHeld
+read_still : (set : Set) (target : Target) (left n : ℕ) (mode : Mode) (s t : ChipState) → 0 < n → Waits set s → names_job s.fault ≡ true → (set ≡ Amd → mode ≡ s.mode) → s.job ≡ Erase target left → s.held ≡ NotHeld
     → StillErases target left n (record s { mode = mode }) t → IsRead set target n s t
-read_still set target left n mode s t some set_is step shows same job held still =
+read_still set target left n mode s t some waits names same job held still =
     let is = still.is in
     let held_t = ap (λ (x : ChipState). x.held) is ∙ held in
     let before = left_of s.job s.held target left job held in
     let after = left_of t.job t.held target still.left (ap (λ (x : ChipState). x.job) is) held_t in
     let most = still.most in
+    let down = still.down in
     record {
-      set_is = ap (λ (x : ChipState). x.part.set) is ∙ set_is;
-      step = ap (λ (x : ChipState). x.step) is ∙ step;
-      shows = shows_still_fault set mode (Erase target still.left) s t shows same is;
-      keeps = let w = within_still target left n (record s { mode = mode }) t still in record { part = w.part; locks = w.locks; held = w.held; suspends = w.suspends; erases = w.erases; size = w.size; outside = w.outside };
+      waits = waits_same set mode (Erase target still.left) s t waits same is;
+      names = ap (λ (x : ChipState). names_job x.fault) is ∙ names;
+      keeps = within_mode target mode s t (within_still target left n (record s { mode = mode }) t still);
       held = held_t;
       fewer = λ free had. let k = still.count free in omega (arith, some, k, before, after);
+      most = omega (arith, down, before, after);
       few = omega (arith, most, before, after);
     }
 
 -- of a chip whose erase has ended
-ended_fault : (b : Bool) (target : Target) (fault : Fault) → names_job fault ≡ true → names_job (fault_with Amd (broke target b) fault) ≡ true
-ended_fault true target fault h = refl
-ended_fault false target fault h = h
+names_broke : (set : Set) (b : Bool) (target : Target) (fault : Fault) → names_job fault ≡ true → names_job (fault_with set (broke target b) fault) ≡ true
+names_broke Intel b target fault h = h
+names_broke Amd true target fault h = refl
+names_broke Amd false target fault h = h
 
-reset_time : (mode : Mode) (job : Job) → can_reset Amd mode (TimeFault job) ≡ true
-reset_time Array job = refl
-reset_time Query job = refl
-reset_time Ident job = refl
-reset_time Status job = refl
-reset_time Locks job = refl
-
-pub reset_broke : (b : Bool) (target : Target) (mode : Mode) (fault : Fault) → can_reset Amd mode fault ≡ true → can_reset Amd mode (fault_with Amd (broke target b) fault) ≡ true
-reset_broke true target mode fault h = reset_time mode (Erase target 0)
-reset_broke false target mode fault h = h
-
-ended_mode : (b : Bool) (target : Target) (fault : Fault) (mode : Mode) → (is_fault fault ≡ false → mode ≡ Array) → is_fault (fault_with Amd (broke target b) fault) ≡ false → mode ≡ Array
-ended_mode true target fault mode h none = cc
-ended_mode false target fault mode h none = h none
-
-shows_ended_fault : (set : Set) (b : Bool) (target : Target) (cells : List ℕ) (mode : Mode) (s t : ChipState) → s.part.set ≡ set → ShowsFault set s → (set ≡ Amd → mode ≡ s.mode)
-    → t ≡ toggling t.t6 t.t2 (erased b target cells (record s { mode = mode })) → ShowsFault set t
-shows_ended_fault Intel b target cells mode s t set shows same is = tt
-shows_ended_fault Amd b target cells mode s t set shows same is =
-    let fault : t.fault ≡ fault_with Amd (broke target b) s.fault = ap (λ (x : ChipState). x.fault) is ∙ ap (λ (k : Set). fault_with k (broke target b) s.fault) set in (
-      ap names_job fault ∙ ended_fault b target s.fault shows.0,
-      λ none. ap (λ (x : ChipState). x.mode) is ∙ (same refl ∙ ended_mode b target s.fault s.mode shows.1 (sym (ap is_fault fault) ∙ none)),
-      ap (λ (m : Mode). can_reset Amd m t.fault) (ap (λ (x : ChipState). x.mode) is ∙ same refl) ∙ (ap (can_reset Amd s.mode) fault ∙ reset_broke b target s.mode s.fault shows.2),
-    )
-
-read_ended : (set : Set) (target : Target) (left n : ℕ) (mode : Mode) (s t : ChipState) → s.part.set ≡ set → s.step ≡ Rest → ShowsFault set s → (set ≡ Amd → mode ≡ s.mode) → s.job ≡ Erase target left → s.held ≡ NotHeld
+read_ended : (set : Set) (target : Target) (left n : ℕ) (mode : Mode) (s t : ChipState) → Waits set s → names_job s.fault ≡ true → (set ≡ Amd → mode ≡ s.mode) → s.job ≡ Erase target left → s.held ≡ NotHeld
     → HasErased target left n (record s { mode = mode }) t → IsRead set target n s t
-read_ended set target left n mode s t set_is step shows same job held ended =
+read_ended set target left n mode s t waits names same job held ended =
     let is = ended.is in
     let held_t = ap (λ (x : ChipState). x.held) is ∙ held in
     let before = left_of s.job s.held target left job held in
     let after = none_of t.job t.held (ap (λ (x : ChipState). x.job) is) held_t in
     let over = ended.over in
+    let broken = broke target (breaks_off target s) in
+    let fault : t.fault ≡ fault_with set broken s.fault = ap (λ (x : ChipState). x.fault) is ∙ ap (λ (k : Set). fault_with k broken s.fault) waits.set in
     record {
-      set_is = ap (λ (x : ChipState). x.part.set) is ∙ set_is;
-      step = ap (λ (x : ChipState). x.step) is ∙ step;
-      shows = shows_ended_fault set (breaks_off target s) target t.cells mode s t set_is shows same is;
-      keeps = let w = within_ended target left n (record s { mode = mode }) t ended in record { part = w.part; locks = w.locks; held = w.held; suspends = w.suspends; erases = w.erases; size = w.size; outside = w.outside };
+      waits = waits_after set mode broken s t waits same (ap (λ (x : ChipState). x.part) is) (ap (λ (x : ChipState). x.step) is) (ap (λ (x : ChipState). x.mode) is) fault;
+      names = ap names_job fault ∙ names_broke set (breaks_off target s) target s.fault names;
+      keeps = within_mode target mode s t (within_ended target left n (record s { mode = mode }) t ended);
       held = held_t;
       fewer = λ free had. omega (arith, had, after);
+      most = omega (arith, after);
       few = omega (arith, over, before, after);
     }
 
 read_erasing : (set : Set) (target : Target) (n : ℕ) (mode : Mode) (s t : ChipState) → 0 < n → TakesLook set target Running s → (set ≡ Amd → mode ≡ s.mode) → (on : ErasesOn target s) → s.held ≡ NotHeld
     → Erases target on.left n (record s { mode = mode }) t → IsRead set target n s t
-read_erasing set target n mode s t some takes same on held (inl still) = read_still set target on.left n mode s t some takes.set_is takes.step takes.shows same on.job held still
-read_erasing set target n mode s t some takes same on held (inr ended) = read_ended set target on.left n mode s t takes.set_is takes.step takes.shows same on.job held ended
+read_erasing set target n mode s t some takes same on held (inl still) = read_still set target on.left n mode s t some takes.waits takes.names same on.job held still
+read_erasing set target n mode s t some takes same on held (inr ended) = read_ended set target on.left n mode s t takes.waits takes.names same on.job held ended
 
 -- ---- where a lane is then
 
@@ -283,7 +261,7 @@ outcome_still set target s t part cells tells (inr h) = inr (torn_still target s
 
 -- a lane that had ended
 ran_ended : (set : Set) (target : Target) (n : ℕ) (mode : Mode) (s t : ChipState) → 0 < n → s.part.set ≡ set → (set ≡ Intel → mode ≡ Status) → s.held ≡ NotHeld → HasEnded target s
-    → t ≡ toggling t.t6 t.t2 (record s { mode = mode; job = Idle }) → RanTo target n s t
+    → t ≡ toggling t.toggle_6 t.toggle_2 (record s { mode = mode; job = Idle }) → RanTo target n s t
 ran_ended set target n mode s t some set_is status held ended is =
     let mine : t.part.set ≡ set = ap (λ (x : ChipState). x.part.set) is ∙ set_is in
     let before = none_of s.job s.held ended.job held in
@@ -304,11 +282,12 @@ ran_ended set target n mode s t some set_is status held ended is =
 -- it works on
 looks_on_working : (set : Set) (target : Target) (n : ℕ) (s t : ChipState) → IsRead set target n s t → RanTo target n s t → HasLeft s → LooksOn set target Running Running n s t
 looks_on_working set target n s t read ran left = record {
-  next = record { set_is = read.set_is; step = read.step; shows = read.shows; is = (runs_to target n s t ran, read.held); awake = λ e. cc };
+  next = record { waits = read.waits; names = read.names; is = (runs_to target n s t ran, read.held); awake = λ e. cc };
   keeps = read.keeps;
   others = λ apart. absurd (apart refl);
   works = λ e f. left;
   fewer = read.fewer;
+  most = read.most;
   few = read.few;
   ends = λ e apart. absurd (apart refl);
 }
@@ -343,11 +322,12 @@ looks_on_ended set target n s t read (inl on) idle = absurd (no_job target t on 
 looks_on_ended set target n s t read (inr ended) idle =
     let b = tells_broken t.part.set t in
     record {
-      next = record { set_is = read.set_is; step = read.step; shows = read.shows; is = lane_ended b target t ended.0.job read.held ended.0.outcome; awake = ended_awake b };
+      next = record { waits = read.waits; names = read.names; is = lane_ended b target t ended.0.job read.held ended.0.outcome; awake = ended_awake b };
       keeps = read.keeps;
       others = λ apart. absurd (apart refl);
       works = λ e f. absurd (ended_over b f);
       fewer = read.fewer;
+      most = read.most;
       few = read.few;
       ends = λ e apart. ended.1;
     }
@@ -373,15 +353,14 @@ lane_stays Suspended target s t ran awake is part cells job held = absurd (awake
 lane_stays Finished target s t ran awake is part cells job held = (erased_still target s t part cells is.0, record { job = job; held = held })
 lane_stays Broken target s t ran awake is part cells job held = (torn_still target s t part is.0, record { job = job; held = held })
 
-looks_other : (set : Set) (target : Target) (n : ℕ) (state : LaneState) (mode : Mode) (s t : ChipState) → state ≢ Running → TakesLook set target state s → IsRead set target n s t → t ≡ toggling t.t6 t.t2 (record s { mode = mode; job = Idle })
+looks_other : (set : Set) (target : Target) (n : ℕ) (state : LaneState) (mode : Mode) (s t : ChipState) → state ≢ Running → TakesLook set target state s → IsRead set target n s t → t ≡ toggling t.toggle_6 t.toggle_2 (record s { mode = mode; job = Idle })
     → LooksOn set target state state n s t
 looks_other set target n state mode s t ran takes read is =
     let cells = ap (λ (x : ChipState). x.cells) is in
     record {
       next = record {
-        set_is = read.set_is;
-        step = read.step;
-        shows = read.shows;
+        waits = read.waits;
+        names = read.names;
         awake = takes.awake;
         is = lane_stays state target s t ran takes.awake takes.is (ap (λ (x : ChipState). x.part) is) cells (ap (λ (x : ChipState). x.job) is) read.held;
       };
@@ -389,6 +368,7 @@ looks_other set target n state mode s t ran takes read is =
       others = λ apart. (refl, cells);
       works = λ e f. absurd (ran e);
       fewer = read.fewer;
+      most = read.most;
       few = read.few;
       ends = λ e f. absurd (ran e);
     }
@@ -397,18 +377,18 @@ looks_at : (set : Set) (target : Target) (u n : ℕ) (it : Seen) (mode : Mode) (
     → AfterReads (record s { mode = mode }) n t → ToldAt u (record s { mode = mode }) it t → LaneIs state target s → LooksOn set target state (next_state state it) n s t
 looks_at set target u n it mode Running s t some takes status same reads told (inl on, held) =
     let h = erases_after target on.left (record s { mode = mode }) n t on.job reads in
-    looks_running set target u n it mode s t (read_erasing set target n mode s t some takes same on held h) (ran_erasing set target n mode s t takes.set_is status held on h) told
+    looks_running set target u n it mode s t (read_erasing set target n mode s t some takes same on held h) (ran_erasing set target n mode s t takes.waits.set status held on h) told
 looks_at set target u n it mode Running s t some takes status same reads told (inr ended, held) =
     let is = idle_after (record s { mode = mode }) n t ended.job reads in
-    looks_running set target u n it mode s t (read_idle set target n mode s t takes.set_is takes.step takes.shows same ended.job held is)
-    (ran_ended set target n mode s t some takes.set_is status held ended is) told
+    looks_running set target u n it mode s t (read_idle set target n mode s t takes.waits takes.names same ended.job held is)
+    (ran_ended set target n mode s t some takes.waits.set status held ended is) told
 looks_at set target u n it mode Suspended s t some takes status same reads told is = absurd (takes.awake refl)
 looks_at set target u n it mode Finished s t some takes status same reads told is =
     let e = idle_after (record s { mode = mode }) n t is.1.job reads in
-    looks_other set target n Finished mode s t (λ e. cc) takes (read_idle set target n mode s t takes.set_is takes.step takes.shows same is.1.job is.1.held e) e
+    looks_other set target n Finished mode s t (λ e. cc) takes (read_idle set target n mode s t takes.waits takes.names same is.1.job is.1.held e) e
 looks_at set target u n it mode Broken s t some takes status same reads told is =
     let e = idle_after (record s { mode = mode }) n t is.1.job reads in
-    looks_other set target n Broken mode s t (λ e. cc) takes (read_idle set target n mode s t takes.set_is takes.step takes.shows same is.1.job is.1.held e) e
+    looks_other set target n Broken mode s t (λ e. cc) takes (read_idle set target n mode s t takes.waits takes.names same is.1.job is.1.held e) e
 
 pub looks_on : (set : Set) (target : Target) (u n : ℕ) (it : Seen) (state : LaneState) (s m t : ChipState) → 0 < n → TakesLook set target state s → ShownAs set s m → AfterReads m n t → ToldAt u m it t
     → LooksOn set target state (next_state state it) n s t
@@ -416,9 +396,6 @@ looks_on set target u n it state s m t some takes now reads told =
     looks_at set target u n it now.mode state s t some takes now.status now.same (subst (λ (x : ChipState). AfterReads x n t) now.is reads) (subst (λ (x : ChipState). ToldAt u x it t) now.is told) takes.is
 
 -- ---- a look that was given up
-
-within_mode : (target : Target) (mode : Mode) (s t : ChipState) → ChangesWithinErase target (record s { mode = mode }) t → ChangesWithinErase target s t
-within_mode target mode s t h = record { part = h.part; locks = h.locks; held = h.held; suspends = h.suspends; erases = h.erases; size = h.size; outside = h.outside }
 
 dark_read : (target : Target) (n : ℕ) (s m t : ChipState) → ErasesOn target s ⊎ (s.job ≡ Idle) → s.held ≡ NotHeld → (mode : Mode) → AfterReads (record s { mode = mode }) n m → Darkens m t → ChangesWithinErase target s t
 dark_read target n s m t (inr idle) held mode reads dark =

@@ -2,7 +2,7 @@
 use Rattle.std.proofs.Common.{◌≡◌, ◌+◌, ◌<◌, ◌≤◌, ◌^◌, ◌%◌, ◌==◌, ℕ, zero, suc, refl, ap, lit<, arith, Bool, true, false}
 use Rattle.std.proofs.Math.Nat.{div-eq_of_lt, pow-le-pow_right}
 use Rattle.nor_cell.specs.Bits.{has_bit}
-use Rattle.nor_cell.specs.Intel.{bit_if}
+use Rattle.nor_cell.specs.Shown.{bit_if}
 
 abbrev pub four : Bool → Bool → Bool → Bool → ℕ
 four a b c d = bit_if 1 a + bit_if 2 b + bit_if 4 c + bit_if 8 d

@@ -1,23 +1,35 @@
 -- A chip of either set that programs, read by read.
 use Rattle.std.proofs.Common.{◌≡◌, ◌+◌, ◌<◌, ◌⊎◌, inl, inr, ℕ, zero, suc, refl, sym, subst, ap, arith, ◌∙◌, Bool, true, false, List, [], length, slice_index, if◌then◌else◌}
 use Rattle.nor_cell.specs.Bits.{unit_len}
-use Rattle.nor_cell.specs.Chip.{ChipState, Flags, Fault, NoFault, Rest, Job, Idle, Program, runs, is_held, reads_left, place}
-use Rattle.nor_cell.specs.Intel.{in_held}
+use Rattle.nor_cell.specs.Chip.{ChipState, Flags, Fault, NoFault, Array, Status, Rest, Job, Idle, Program, runs, is_held, reads_left, place, holds_at}
 use Rattle.nor_cell.specs.Look.{look, look_at, Works, EndsProgram, Rests, broken_of, flags_with, fault_with, Programmed}
-use Rattle.nor_cell.specs.Power.{Cuts, is_erasing_at, erases_at, holds_at}
+use Rattle.nor_cell.specs.Power.{Cuts, is_erasing_at, erases_at}
 use Rattle.nor_cell.specs.declared.device.Set.{Set}
 use Rattle.nor_cell.specs.declared.device.Set.TheVariants.{Intel, Amd}
 use Rattle.nor_bus.specs.Driven.{Darkens}
-use Rattle.nor_poll.specs.Losing.{IsUnmoved, TornBy, Tears, Loses}
+use Rattle.nor_poll.specs.Losing.{IsUnmoved, Tears, Loses}
 use Rattle.nor_poll.specs.Reads.{AfterReads, NoReads, OneMore}
-use Rattle.nor_poll.specs.Rest.{cleared_flags, no_flags}
+use Rattle.nor_poll.specs.Rest.{cleared_flags}
+use Rattle.nor_cell.specs.Between.{can_reset, no_flags, TakesCommands}
 use Rattle.nor_poll.specs.Told.{IsLooked, HasLeft, seen, seen_fault, seen_idle}
-use Rattle.nor_poll.specs.Word.{programming, work_mode, is_broken, TakesCommands}
+use Rattle.nor_poll.specs.Word.{programming, work_mode, is_broken}
 use Rattle.nor_poll.specs.Words.{breaks, Stores}
 use Rattle.nor_poll.specs.declared.watch.Seen.{Seen}
 use Rattle.nor_poll.proofs.Between.{right_false, not_below, not_above, is_inside}
 use Rattle.nor_poll.proofs.Looking.{works, stays, ends_program, ends_program_cells}
-use Rattle.nor_poll.proofs.Losing.{torn_none, torn_stored, loses_torn}
+use Rattle.nor_poll.proofs.Losing.{remains_then, torn_none, torn_stored, left_torn}
+
+-- ---- the mode of a set at work
+
+pub work_array : (set : Set) → set ≡ Amd → work_mode set ≡ Array
+work_array Intel e = cc
+work_array Amd e = refl
+
+pub work_resets : (set : Set) (fault : Fault) → fault ≡ NoFault → can_reset set (work_mode set) fault ≡ true
+work_resets Intel fault none = ap (can_reset Intel Status) none
+work_resets Amd fault none = ap (can_reset Amd Array) none
+
+-- ---- reads
 
 -- the job of a program that broke off
 abbrev pub break_job : Bool → ℕ → List ℕ → Job
@@ -36,23 +48,23 @@ stored kind broken p bytes cells s = record s {
 
 -- a chip with these toggle bits
 abbrev pub toggling : Bool → Bool → ChipState → ChipState
-toggling t6 t2 s = record s { t6 = t6; t2 = t2 }
+toggling toggle_6 toggle_2 s = record s { toggle_6 = toggle_6; toggle_2 = toggle_2 }
 
 -- a chip of set 0001 has none
 abbrev pub KeepsToggles : Set → ChipState → ChipState → Type 0
-KeepsToggles kind s t = kind ≡ Intel → (t.t6 ≡ s.t6) × (t.t2 ≡ s.t2)
+KeepsToggles kind s t = kind ≡ Intel → (t.toggle_6 ≡ s.toggle_6) × (t.toggle_2 ≡ s.toggle_2)
 
 -- After n reads the chip still programs: it had more reads left, or is stuck.
 pub record StillPrograms (kind : Set) (p : ℕ) (bytes : List ℕ) (reads n : ℕ) (s t : ChipState) : Type 0 where
   pub left : ℕ
-  pub is : t ≡ toggling t.t6 t.t2 (programming kind p bytes left s)
+  pub is : t ≡ toggling t.toggle_6 t.toggle_2 (programming kind p bytes left s)
   pub count : s.part.stuck ≡ false → left + n ≡ reads
   pub still : KeepsToggles kind s t
 
 -- Its program has ended.
 pub record HasStored (kind : Set) (p : ℕ) (bytes : List ℕ) (s t : ChipState) : Type 0 where
   pub cells : Stores p bytes s t.cells
-  pub is : t ≡ toggling t.t6 t.t2 (stored kind (breaks p bytes s) p bytes t.cells s)
+  pub is : t ≡ toggling t.toggle_6 t.toggle_2 (stored kind (breaks p bytes s) p bytes t.cells s)
   pub still : KeepsToggles kind s t
 
 abbrev pub Programs : Set → ℕ → List ℕ → ℕ → ℕ → ChipState → ChipState → Type 0
@@ -63,10 +75,10 @@ keeps_then kind s m t set keeps h intel =
     let one = keeps intel in let two = h.still (set ∙ intel) in (two.0 ∙ one.0, two.1 ∙ one.1)
 
 -- what a read of a chip that programs leaves
-goes_on : (kind : Set) (p : ℕ) (bytes : List ℕ) (k left : ℕ) (s m t : ChipState) → m ≡ toggling m.t6 m.t2 (programming kind p bytes k s) → look m ≡ Works (Program p bytes left) → IsLooked m t
-    → t ≡ toggling t.t6 t.t2 (programming kind p bytes left s)
+goes_on : (kind : Set) (p : ℕ) (bytes : List ℕ) (k left : ℕ) (s m t : ChipState) → m ≡ toggling m.toggle_6 m.toggle_2 (programming kind p bytes k s) → look m ≡ Works (Program p bytes left) → IsLooked m t
+    → t ≡ toggling t.toggle_6 t.toggle_2 (programming kind p bytes left s)
 goes_on kind p bytes k left s m t is e h =
-    works m t (Program p bytes left) e h ∙ ap (λ (x : ChipState). record x { job = Program p bytes left; t6 = t.t6; t2 = t.t2 }) is
+    works m t (Program p bytes left) e h ∙ ap (λ (x : ChipState). record x { job = Program p bytes left; toggle_6 = t.toggle_6; toggle_2 = t.toggle_2 }) is
 
 abbrev ended : ℕ → List ℕ → ChipState → ChipState → ChipState
 ended p bytes t x = record x {
@@ -74,8 +86,8 @@ ended p bytes t x = record x {
   flags = flags_with x.part.set (broken_of x (EndsProgram p bytes)) x.flags;
   fault = fault_with x.part.set (broken_of x (EndsProgram p bytes)) x.fault;
   cells = t.cells;
-  t6 = t.t6;
-  t2 = t.t2;
+  toggle_6 = t.toggle_6;
+  toggle_2 = t.toggle_2;
 }
 
 abbrev stored_by : Set → Set → Bool → ℕ → List ℕ → List ℕ → ChipState → ChipState
@@ -84,16 +96,16 @@ stored_by set kind broken p bytes cells s = record (stored kind broken p bytes c
   fault = fault_with set (break_job broken p bytes) s.fault;
 }
 
-ends_now : (kind : Set) (p : ℕ) (bytes : List ℕ) (s m t : ChipState) → s.part.set ≡ kind → m ≡ toggling m.t6 m.t2 (programming kind p bytes 0 s) → look m ≡ EndsProgram p bytes → IsLooked m t
-    → t ≡ toggling t.t6 t.t2 (stored kind (breaks p bytes s) p bytes t.cells s)
+ends_now : (kind : Set) (p : ℕ) (bytes : List ℕ) (s m t : ChipState) → s.part.set ≡ kind → m ≡ toggling m.toggle_6 m.toggle_2 (programming kind p bytes 0 s) → look m ≡ EndsProgram p bytes → IsLooked m t
+    → t ≡ toggling t.toggle_6 t.toggle_2 (stored kind (breaks p bytes s) p bytes t.cells s)
 ends_now kind p bytes s m t set is e h =
-    ends_program m t p bytes e h ∙ (ap (ended p bytes t) is ∙ ap (λ (k : Set). toggling t.t6 t.t2 (stored_by k kind (breaks p bytes s) p bytes t.cells s)) set)
+    ends_program m t p bytes e h ∙ (ap (ended p bytes t) is ∙ ap (λ (k : Set). toggling t.toggle_6 t.toggle_2 (stored_by k kind (breaks p bytes s) p bytes t.cells s)) set)
 
 looks : (m : ChipState) (stuck : Bool) (job : Job) → m.part.stuck ≡ stuck → m.job ≡ job → look m ≡ look_at stuck job
 looks m stuck job is e = ap (look_at m.part.stuck) e ∙ ap (λ (b : Bool). look_at b job) is
 
 going : (stuck : Bool) (kind : Set) (p : ℕ) (bytes : List ℕ) (reads n left : ℕ) (s m t : ChipState) → s.part.set ≡ kind → m.part.stuck ≡ stuck → (stuck ≡ false → left + n ≡ reads)
-    → s.part.stuck ≡ stuck → m ≡ toggling m.t6 m.t2 (programming kind p bytes left s) → KeepsToggles kind s t → IsLooked m t → Programs kind p bytes reads (suc n) s t
+    → s.part.stuck ≡ stuck → m ≡ toggling m.toggle_6 m.toggle_2 (programming kind p bytes left s) → KeepsToggles kind s t → IsLooked m t → Programs kind p bytes reads (suc n) s t
 going true kind p bytes reads n left s m t set is count same e keeps h =
     let l = looks m true (Program p bytes left) is (ap (λ (x : ChipState). x.job) e) in
     inl (record { left = left; is = goes_on kind p bytes left left s m t e l h; count = λ free. let no : true ≡ false = sym same ∙ free in absurd cc; still = keeps })
@@ -126,7 +138,7 @@ programs_more kind p bytes reads n s m t set (inr ended) h =
     let mine : m.part.set ≡ kind = ap (λ (x : ChipState). x.part.set) ended.is ∙ set in
     inr (record {
       cells = subst (λ (x : List ℕ). Stores p bytes s x) cells ended.cells;
-      is = e ∙ (ap (λ (x : ChipState). record x { job = Idle; t6 = t.t6; t2 = t.t2 }) ended.is ∙ ap (λ (x : List ℕ). toggling t.t6 t.t2 (stored kind (breaks p bytes s) p bytes x s)) cells);
+      is = e ∙ (ap (λ (x : ChipState). record x { job = Idle; toggle_6 = t.toggle_6; toggle_2 = t.toggle_2 }) ended.is ∙ ap (λ (x : List ℕ). toggling t.toggle_6 t.toggle_2 (stored kind (breaks p bytes s) p bytes x s)) cells);
       still = keeps_then kind s m t mine ended.still h;
     })
 
@@ -176,19 +188,19 @@ told_fault true here p bytes = refl
 told_fault false true p bytes = refl
 told_fault false false p bytes = refl
 
-told_stored : (kind : Set) (u p : ℕ) (bytes : List ℕ) (broken : Bool) (cells : List ℕ) (t6 t2 : Bool) (s : ChipState) → TakesCommands kind s
-    → is_broken (seen_idle kind u (toggling t6 t2 (stored kind broken p bytes cells s))) ≡ broken
-told_stored Intel u p bytes broken cells t6 t2 s takes = told_flags broken (is_held s.held) p bytes
-told_stored Amd u p bytes broken cells t6 t2 s takes =
-    ap (λ (f : Fault). is_broken (seen_fault (fault_with Amd (break_job broken p bytes) f) (in_held s.held s.part (place s.part u)))) takes.1
-    ∙ told_fault broken (in_held s.held s.part (place s.part u)) p bytes
+told_stored : (kind : Set) (u p : ℕ) (bytes : List ℕ) (broken : Bool) (cells : List ℕ) (toggle_6 toggle_2 : Bool) (s : ChipState) → TakesCommands kind s
+    → is_broken (seen_idle kind u (toggling toggle_6 toggle_2 (stored kind broken p bytes cells s))) ≡ broken
+told_stored Intel u p bytes broken cells toggle_6 toggle_2 s takes = told_flags broken (is_held s.held) p bytes
+told_stored Amd u p bytes broken cells toggle_6 toggle_2 s takes =
+    ap (λ (f : Fault). is_broken (seen_fault (fault_with Amd (break_job broken p bytes) f) (holds_at s.held s.part.blocks (place s.part u)))) takes.fault
+    ∙ told_fault broken (holds_at s.held s.part.blocks (place s.part u)) p bytes
 
 -- it is told to be broken where it broke off
 pub tells_broken : (kind : Set) (u p : ℕ) (bytes : List ℕ) (s t : ChipState) (it : Seen) → s.part.set ≡ kind → TakesCommands kind s → HasStored kind p bytes s t → it ≡ seen_idle t.part.set u t
     → is_broken it ≡ breaks p bytes s
 tells_broken kind u p bytes s t it set takes h told =
     let mine : t.part.set ≡ kind = ap (λ (x : ChipState). x.part.set) h.is ∙ set in
-    ap is_broken (told ∙ (ap (λ (k : Set). seen_idle k u t) mine ∙ ap (seen_idle kind u) h.is)) ∙ told_stored kind u p bytes (breaks p bytes s) t.cells t.t6 t.t2 s takes
+    ap is_broken (told ∙ (ap (λ (k : Set). seen_idle k u t) mine ∙ ap (seen_idle kind u) h.is)) ∙ told_stored kind u p bytes (breaks p bytes s) t.cells t.toggle_6 t.toggle_2 s takes
 
 -- ---- a call that is given up meanwhile
 
@@ -201,44 +213,49 @@ stored_error Intel true p bytes flags = refl
 stored_error Intel false p bytes flags = refl
 stored_error Amd broken p bytes flags = refl
 
-still_unmoved : (kind : Set) (p : ℕ) (bytes : List ℕ) (left : ℕ) (cells : List ℕ) (t6 t2 : Bool) (s t : ChipState) → t ≡ record (toggling t6 t2 (programming kind p bytes left s)) { cells = cells } → IsUnmoved s t
-still_unmoved kind p bytes left cells t6 t2 s t e = record {
-  part = ap (λ (x : ChipState). x.part) e;
-  locks = ap (λ (x : ChipState). x.locks) e;
+still_unmoved : (kind : Set) (p : ℕ) (bytes : List ℕ) (left : ℕ) (cells : List ℕ) (toggle_6 toggle_2 : Bool) (s t : ChipState) → length cells ≡ length s.cells
+    → t ≡ record (toggling toggle_6 toggle_2 (programming kind p bytes left s)) { cells = cells } → IsUnmoved s t
+still_unmoved kind p bytes left cells toggle_6 toggle_2 s t size e = record {
+  remains = record {
+    part = ap (λ (x : ChipState). x.part) e;
+    size = ap (λ (x : ChipState). length x.cells) e ∙ size;
+    locks = ap (λ (x : ChipState). x.locks) e;
+    erases = ap (λ (x : ChipState). x.erases) e;
+  };
   held = ap (λ (x : ChipState). x.held) e;
   suspends = ap (λ (x : ChipState). x.suspends) e;
-  erases = ap (λ (x : ChipState). x.erases) e;
   no_error = cleared_error kind s.flags t.flags.erase (ap (λ (x : ChipState). x.flags.erase) e);
 }
 
-pub stored_unmoved : (kind : Set) (broken : Bool) (p : ℕ) (bytes cells : List ℕ) (t6 t2 : Bool) (s t : ChipState) → t ≡ toggling t6 t2 (stored kind broken p bytes cells s) → IsUnmoved s t
-stored_unmoved kind broken p bytes cells t6 t2 s t e = record {
-  part = ap (λ (x : ChipState). x.part) e;
-  locks = ap (λ (x : ChipState). x.locks) e;
+pub stored_unmoved : (kind : Set) (broken : Bool) (p : ℕ) (bytes cells : List ℕ) (toggle_6 toggle_2 : Bool) (s t : ChipState) → length cells ≡ length s.cells
+    → t ≡ toggling toggle_6 toggle_2 (stored kind broken p bytes cells s) → IsUnmoved s t
+stored_unmoved kind broken p bytes cells toggle_6 toggle_2 s t size e = record {
+  remains = record {
+    part = ap (λ (x : ChipState). x.part) e;
+    size = ap (λ (x : ChipState). length x.cells) e ∙ size;
+    locks = ap (λ (x : ChipState). x.locks) e;
+    erases = ap (λ (x : ChipState). x.erases) e;
+  };
   held = ap (λ (x : ChipState). x.held) e;
   suspends = ap (λ (x : ChipState). x.suspends) e;
-  erases = ap (λ (x : ChipState). x.erases) e;
   no_error = cleared_error kind s.flags t.flags.erase (ap (λ (x : ChipState). x.flags.erase) e ∙ stored_error kind broken p bytes (cleared_flags kind s.flags));
 }
 
 -- while power is on
 pub tears : (kind : Set) (p : ℕ) (bytes : List ℕ) (reads n : ℕ) (s t : ChipState) → Programs kind p bytes reads n s t → Tears p bytes s t
-tears kind p bytes reads n s t (inl still) = record {
-  keeps = still_unmoved kind p bytes still.left s.cells t.t6 t.t2 s t still.is;
-  cells = subst (λ (x : List ℕ). TornBy p bytes s.cells x) (sym (ap (λ (x : ChipState). x.cells) still.is)) (torn_none p bytes s.cells);
-}
-tears kind p bytes reads n s t (inr ended) = record {
-  keeps = stored_unmoved kind (breaks p bytes s) p bytes t.cells t.t6 t.t2 s t ended.is;
-  cells = torn_stored (unit_len s.part.device) s.part.weak p bytes s.cells t.cells ended.cells;
-}
+tears kind p bytes reads n s t (inl still) =
+    left_torn (λ q. false) p bytes s.cells s t (torn_none p bytes s.cells) (still_unmoved kind p bytes still.left s.cells t.toggle_6 t.toggle_2 s t refl still.is)
+    (λ q free. ap (λ (x : ChipState). slice_index x.cells q) still.is)
+tears kind p bytes reads n s t (inr ended) =
+    left_torn (λ q. false) p bytes t.cells s t (torn_stored (unit_len s.part.device) s.part.weak p bytes s.cells t.cells ended.cells)
+    (stored_unmoved kind (breaks p bytes s) p bytes t.cells t.toggle_6 t.toggle_2 s t ended.cells.size ended.is) (λ q free. refl)
 
 free_of : (s : ChipState) (q : ℕ) → is_erasing_at s q ≡ false → holds_at s.held s.part.blocks q ≡ false
 free_of s q free = right_false (erases_at s.job s.part.blocks q) (holds_at s.held s.part.blocks q) free
 
-cut_programming : (kind : Set) (p : ℕ) (bytes : List ℕ) (left : ℕ) (t6 t2 : Bool) (s t : ChipState) → Cuts (toggling t6 t2 (programming kind p bytes left s)) t → Loses p bytes s t
-cut_programming kind p bytes left t6 t2 s t h = record {
-  keeps = still_unmoved kind p bytes left t.cells t6 t2 s t h.rest;
-  size = h.size;
+cut_programming : (kind : Set) (p : ℕ) (bytes : List ℕ) (left : ℕ) (toggle_6 toggle_2 : Bool) (s t : ChipState) → Cuts (toggling toggle_6 toggle_2 (programming kind p bytes left s)) t → Loses p bytes s t
+cut_programming kind p bytes left toggle_6 toggle_2 s t h = record {
+  keeps = still_unmoved kind p bytes left t.cells toggle_6 toggle_2 s t h.size h.rest;
   below = λ q free low. h.kept q (free_of s q free) (not_below p (length bytes) q low);
   above = λ q free high. h.kept q (free_of s q free) (not_above p (length bytes) q high);
   inside = λ q free low high. h.programming q (free_of s q free) (is_inside p (length bytes) q low high);
@@ -247,33 +264,32 @@ cut_programming kind p bytes left t6 t2 s t h = record {
 -- as power goes
 pub dark_programs : (kind : Set) (p : ℕ) (bytes : List ℕ) (reads n : ℕ) (s m t : ChipState) → Programs kind p bytes reads n s m → Darkens m t → Loses p bytes s t
 dark_programs kind p bytes reads n s m t (inl still) (inl same) =
-    let e : t ≡ toggling m.t6 m.t2 (programming kind p bytes still.left s) = same ∙ still.is in
-    loses_torn p bytes s.cells s t (torn_none p bytes s.cells) (still_unmoved kind p bytes still.left s.cells m.t6 m.t2 s t e)
-    (ap (λ (x : ChipState). length x.cells) e) (λ q free. ap (λ (x : ChipState). slice_index x.cells q) e)
-dark_programs kind p bytes reads n s m t (inl still) (inr cut) = cut_programming kind p bytes still.left m.t6 m.t2 s t (subst (λ (x : ChipState). Cuts x t) still.is cut)
+    let e : t ≡ toggling m.toggle_6 m.toggle_2 (programming kind p bytes still.left s) = same ∙ still.is in
+    left_torn (is_erasing_at s) p bytes s.cells s t (torn_none p bytes s.cells) (still_unmoved kind p bytes still.left s.cells m.toggle_6 m.toggle_2 s t refl e)
+    (λ q free. ap (λ (x : ChipState). slice_index x.cells q) e)
+dark_programs kind p bytes reads n s m t (inl still) (inr cut) = cut_programming kind p bytes still.left m.toggle_6 m.toggle_2 s t (subst (λ (x : ChipState). Cuts x t) still.is cut)
 dark_programs kind p bytes reads n s m t (inr ended) (inl same) =
-    let e : t ≡ toggling m.t6 m.t2 (stored kind (breaks p bytes s) p bytes m.cells s) = same ∙ ended.is in
-    loses_torn p bytes m.cells s t (torn_stored (unit_len s.part.device) s.part.weak p bytes s.cells m.cells ended.cells) (stored_unmoved kind (breaks p bytes s) p bytes m.cells m.t6 m.t2 s t e)
-    (ap (λ (x : ChipState). length x.cells) e) (λ q free. ap (λ (x : ChipState). slice_index x.cells q) e)
+    let e : t ≡ toggling m.toggle_6 m.toggle_2 (stored kind (breaks p bytes s) p bytes m.cells s) = same ∙ ended.is in
+    left_torn (is_erasing_at s) p bytes m.cells s t (torn_stored (unit_len s.part.device) s.part.weak p bytes s.cells m.cells ended.cells)
+    (stored_unmoved kind (breaks p bytes s) p bytes m.cells m.toggle_6 m.toggle_2 s t ended.cells.size e)
+    (λ q free. ap (λ (x : ChipState). slice_index x.cells q) e)
 dark_programs kind p bytes reads n s m t (inr ended) (inr cut) =
-    let ready = toggling m.t6 m.t2 (stored kind (breaks p bytes s) p bytes m.cells s) in
+    let ready = toggling m.toggle_6 m.toggle_2 (stored kind (breaks p bytes s) p bytes m.cells s) in
     let h : Cuts ready t = subst (λ (x : ChipState). Cuts x t) ended.is cut in
-    loses_torn p bytes m.cells s t (torn_stored (unit_len s.part.device) s.part.weak p bytes s.cells m.cells ended.cells)
-    (stored_unmoved kind (breaks p bytes s) p bytes t.cells m.t6 m.t2 s t h.rest)
-    h.size (λ q free. h.kept q (free_of s q free) refl)
+    left_torn (is_erasing_at s) p bytes m.cells s t (torn_stored (unit_len s.part.device) s.part.weak p bytes s.cells m.cells ended.cells)
+    (stored_unmoved kind (breaks p bytes s) p bytes t.cells m.toggle_6 m.toggle_2 s t (h.size ∙ ended.cells.size) h.rest)
+    (λ q free. h.kept q (free_of s q free) refl)
 
 -- after the program has ended, in a call that programs nothing
 pub loses_later : (kind : Set) (p : ℕ) (bytes : List ℕ) (s m t : ChipState) → HasStored kind p bytes s m → Loses 0 [] m t → Loses p bytes s t
 loses_later kind p bytes s m t ended h =
-    let mine = stored_unmoved kind (breaks p bytes s) p bytes m.cells m.t6 m.t2 s m ended.is in
+    let mine = stored_unmoved kind (breaks p bytes s) p bytes m.cells m.toggle_6 m.toggle_2 s m ended.cells.size ended.is in
     let free = λ (q : ℕ) (out : is_erasing_at s q ≡ false). ap (λ (x : ChipState). is_erasing_at x q) ended.is ∙ free_of s q out in
-    loses_torn p bytes m.cells s t (torn_stored (unit_len s.part.device) s.part.weak p bytes s.cells m.cells ended.cells)
+    left_torn (is_erasing_at s) p bytes m.cells s t (torn_stored (unit_len s.part.device) s.part.weak p bytes s.cells m.cells ended.cells)
     (record {
-      part = h.keeps.part ∙ mine.part;
-      locks = h.keeps.locks ∙ mine.locks;
+      remains = remains_then s m t mine.remains h.keeps.remains;
       held = h.keeps.held ∙ mine.held;
       suspends = h.keeps.suspends ∙ mine.suspends;
-      erases = h.keeps.erases ∙ mine.erases;
       no_error = λ e. mine.no_error (h.keeps.no_error e);
     })
-    h.size (λ q out. h.above q (free q out) (omega arith))
+    (λ q out. h.above q (free q out) (omega arith))

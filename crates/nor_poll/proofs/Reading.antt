@@ -1,10 +1,10 @@
 -- Any number of status reads.
-use Rattle.std.proofs.Common.{◌≡◌, ◌≢◌, ◌+◌, ◌<◌, ◌≤◌, inl, inr, ℕ, suc, refl, sym, ap, subst, ◌∙◌, arith, Bool, true, false, add-one, Result, Ok, Err, OnErr, IfErr, IsErrAnd}
+use Rattle.std.proofs.Common.{◌≡◌, ◌≢◌, ◌+◌, ◌≤◌, inl, inr, ℕ, suc, refl, sym, ap, subst, ◌∙◌, arith, Bool, true, false, add-one, Result, Ok, Err, OnErr}
 use Rattle.nor_cell.specs.Chip.{ChipState, Job, Idle, Program, Erase, Pausing, Flags, runs, is_held}
-use Rattle.nor_bus.specs.Bus.{BusState, chip_at, lane, lanes_of}
+use Rattle.nor_bus.specs.Bus.{BusState, chip_at, lane}
 use Rattle.nor_bus.specs.Cycles.{BusFails}
 use Rattle.nor_bus.specs.Driven.{Went, Lost, EachLane, Darkens}
-use Rattle.nor_bus.proofs.Driving.{went_then, lost_then}
+use Rattle.nor_bus.proofs.Driving.{went_then, lost_then, lane_kept}
 use Rattle.nor_poll.specs.Told.{IsLooked, ShowsStatus, Told, seen}
 use Rattle.nor_poll.specs.Reads.{AfterReads, NoReads, OneMore, ReadBy, DarkensReading}
 use Rattle.nor_poll.specs.declared.watch.Seen.{Seen}
@@ -51,10 +51,6 @@ pub on_err : {T E : Type 0} (r : Result T E) (P : Type 0) → P → OnErr r P
 on_err (Ok x) P p = tt
 on_err (Err e) P p = p
 
--- the lanes stay
-pub moved : (old mid : BusState) (c : ℕ) → lanes_of mid ≡ lanes_of old → c < lanes_of old → c < lanes_of mid
-moved old mid c count below = subst (λ (m : ℕ). c < m) (sym count) below
-
 pub after_then : (s : ChipState) (n : ℕ) (m : ChipState) (k : ℕ) (t : ChipState) → AfterReads s n m → AfterReads m k t → AfterReads s (n + k) t
 after_then s n m k t h NoReads = let e : n ≡ n + 0 = omega arith in subst (λ (i : ℕ). AfterReads s i m) e h
 after_then s n m k t h (OneMore {n = j} {m = x} before look) =
@@ -74,7 +70,7 @@ read_then l m n o k q a b c ge le x y =
       enough = omega (arith, ge, p, r);
       few = omega (arith, le, s, t);
       went = went_then x.reads x.reads y.reads y.reads (x.reads + y.reads) (x.reads + y.reads) a b c (omega arith) (omega arith) x.went y.went;
-      each = λ i below. after_then (lane a i) x.reads (lane b i) y.reads (lane c i) (x.each i below) (y.each i (moved a b i x.went.kept.count below));
+      each = λ i below. after_then (lane a i) x.reads (lane b i) y.reads (lane c i) (x.each i below) (y.each i (lane_kept a b i x.went.kept below));
     }
 
 -- Power went after some reads.
@@ -86,10 +82,5 @@ dark_now a b dark = λ c below. (0, record { mid = lane a c; reads = NoReads; da
 
 pub dark_then : (l m : ℕ) (a b c : BusState) → ReadBy l m a b → EachLane DarkensReading b c → EachLane DarkensReading a c
 dark_then l m a b c x dark = λ i below.
-    let d = dark i (moved a b i x.went.kept.count below) in
+    let d = dark i (lane_kept a b i x.went.kept below) in
     (x.reads + d.0, record { mid = d.1.mid; reads = after_then (lane a i) x.reads (lane b i) d.0 d.1.mid (x.each i below) d.1.reads; dark = d.1.dark })
-
--- a fact of the error that was given
-pub if_gave : {T E : Type 0} (r : Result T E) (e : E) (P : E → Type 0) → IsErrAnd r (λ x. x ≡ e) → P e → IfErr r P
-if_gave (Ok x) e P gave p = tt
-if_gave (Err x) e P gave p = subst P (sym gave) p

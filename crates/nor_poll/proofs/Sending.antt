@@ -1,7 +1,7 @@
 -- Command cycles, one after another.
 use Rattle.std.proofs.Common.{◌≡◌, inl, inr, ◌+◌, ◌*◌, ◌<◌, ◌≤◌, ℕ, List, [], ◌∷◌, length, drop, get_or, drop-cons, add-one, refl, sym, ap, subst, ◌∙◌, arith}
 use Rattle.nor_cell.specs.Bits.{unit_len}
-use Rattle.nor_cell.specs.Amd.{a1, a2}
+use Rattle.nor_cell.specs.Amd.{first_address, second_address}
 use Rattle.nor_cell.specs.Chip.{ChipState}
 use Rattle.nor_cell.specs.declared.device.Device.{Device}
 use Rattle.nor_cell.specs.declared.device.Device.TheVariants.{X8, X16, X16Byte}
@@ -18,12 +18,12 @@ use Rattle.nor_poll.specs.declared.codes.To.TheVariants.{Here, First, Second}
 
 -- ---- every bus has the addresses of the command cycles
 
-first_below : (device : Device) (units size wide : ℕ) → 2048 ≤ units → units * wide ≡ size → 4096 ≤ size → wide ≡ unit_len device → a1 device < units
+first_below : (device : Device) (units size wide : ℕ) → 2048 ≤ units → units * wide ≡ size → 4096 ≤ size → wide ≡ unit_len device → first_address device < units
 first_below X8 units size wide some is least same = omega arith
 first_below X16 units size wide some is least same = omega arith
 first_below X16Byte units size wide some is least same = let e : units * 1 ≡ size = ap (λ (w : ℕ). units * w) (sym same) ∙ is in omega arith
 
-second_below : (device : Device) (units : ℕ) → 2048 ≤ units → a2 device < units
+second_below : (device : Device) (units : ℕ) → 2048 ≤ units → second_address device < units
 second_below X8 units some = omega arith
 second_below X16 units some = omega arith
 second_below X16Byte units some = omega arith

@@ -12,18 +12,20 @@ use Rattle.nor_bus.specs.Bus.{wide}
 use Rattle.nor_poll.specs.Codes.{cycles_of, after_cycles, DarkensIn}
 use Rattle.nor_bus.specs.Driven.{Darkens}
 use Rattle.nor_poll.specs.Polled.{Answers, polling_for, working_reads}
-use Rattle.nor_poll.specs.Rest.{AtRest, IsClear, LosesNone, Settles, SettlesUnbroken, settled}
+use Rattle.nor_poll.specs.Rest.{Resets, Settles, SettlesUnbroken, settled}
+use Rattle.nor_cell.specs.Between.{AtRest, IsClear, reset}
+use Rattle.nor_poll.specs.Losing.{LosesNone}
 use Rattle.nor_poll.specs.Toggles.{ShowsToggle, ShowsDatum, IsProgramFault}
 use Rattle.nor_poll.specs.Wait.{wait_most, wait_prompt}
 use Rattle.nor_poll.specs.Word.{TakesProgram, BeginsWord, LosesWord, programming, word_most, word_prompt, word_stuck}
 use Rattle.nor_poll.specs.Words.{word_reads}
 use Rattle.nor_poll.specs.declared.polling.Polling.{Polling}
 use Rattle.nor_poll.specs.declared.polling.Polling.TheVariants.{Toggle, Data}
-use Rattle.nor_poll.specs.declared.codes.Command.TheVariants.{ProgramWord, ClearErrors, ShowArray}
+use Rattle.nor_poll.specs.declared.codes.Command.TheVariants.{ProgramWord, ClearErrors, ShowArray, Reset}
 use Rattle.nor_poll.proofs.Losing.{dark_idle}
 use Rattle.nor_poll.proofs.Showing.{datum_toggles}
 use Rattle.nor_poll.proofs.Leading.{IsTurned, at_step, Leads, Arrives, leads_to, leads_dark}
-use Rattle.nor_poll.proofs.Codes1.{clears as clears_1, shows_array as shows_1, announces as announces_1, announced as announced_1, turned_announced as turned_1, takes_word as takes_1}
+use Rattle.nor_poll.proofs.Codes1.{clears as clears_1, resets as resets_1, shows_array as shows_1, announces as announces_1, announced as announced_1, turned_announced as turned_1, takes_word as takes_1}
 use Rattle.nor_poll.proofs.Codes2.{clears as clears_2, was_clear, announces as announces_2, takes_word as takes_2}
 
 -- ---- what ends a command
@@ -33,7 +35,7 @@ clears Intel u s rest = clears_1 u s rest
 clears Amd u s rest = clears_2 u s rest
 
 shows : (set : Set) (u : ℕ) (s : ChipState) → AtRest set s → IsClear set s → Leads u s (cycles_of set ShowArray) s (settled set s)
-shows Intel u s rest clear = shows_1 u s rest clear
+shows Intel u s rest clear = shows_1 u s rest (clear.flags refl)
 shows Amd u s rest clear = subst (λ (x : ChipState). Leads u s [] s x) (was_clear s clear) Arrives
 
 pub settles : (set : Set) (u : ℕ) (s t : ChipState) → t ≡ after_cycles u (cycles_of set ClearErrors) s → Settles set s t
@@ -42,8 +44,18 @@ settles set u s t is rest = is ∙ leads_to u s (cycles_of set ClearErrors) s (s
 pub settles_unbroken : (set : Set) (u bits : ℕ) (s t : ChipState) → bits ≡ 0 → t ≡ after_cycles u (cycles_of set ShowArray) s → SettlesUnbroken set bits s t
 settles_unbroken set u bits s t none is rest clear = is ∙ leads_to u s (cycles_of set ShowArray) s (settled set s) (shows set u s rest (clear none))
 
-pub loses_settling : (set : Set) (u : ℕ) (s t : ChipState) → DarkensIn u (cycles_of set ClearErrors) s t → LosesNone set s t
+pub loses_settling : (set : Set) (u : ℕ) (s t : ChipState) → DarkensIn u (cycles_of set ClearErrors) s t → LosesNone (AtRest set) s t
 loses_settling set u s t dark rest = leads_dark 0 [] u s (cycles_of set ClearErrors) s (settled set s) t rest.job (clears set u s rest) dark
+
+resets_by : (set : Set) (u : ℕ) (s : ChipState) → AtRest set s → Leads u s (cycles_of set Reset) s (reset s)
+resets_by Intel u s rest = resets_1 u s rest
+resets_by Amd u s rest = clears_2 u s rest
+
+pub resets : (set : Set) (u : ℕ) (s t : ChipState) → t ≡ after_cycles u (cycles_of set Reset) s → Resets set s t
+resets set u s t is rest = is ∙ leads_to u s (cycles_of set Reset) s (reset s) (resets_by set u s rest)
+
+pub loses_resetting : (set : Set) (u : ℕ) (s t : ChipState) → DarkensIn u (cycles_of set Reset) s t → LosesNone (AtRest set) s t
+loses_resetting set u s t dark rest = leads_dark 0 [] u s (cycles_of set Reset) s (reset s) t rest.job (resets_by set u s rest) dark
 
 -- the array is shown by one cycle, which is the first
 loses_first : (set : Set) (u : ℕ) (s t : ChipState) → DarkensIn u (cycles_of set ShowArray) s t → Darkens s t
@@ -51,7 +63,7 @@ loses_first Intel u s t (inl dark) = dark
 loses_first Intel u s t (inr later) = absurd later
 loses_first Amd u s t dark = absurd dark
 
-pub loses_showing : (set : Set) (u : ℕ) (s t : ChipState) → DarkensIn u (cycles_of set ShowArray) s t → LosesNone set s t
+pub loses_showing : (set : Set) (u : ℕ) (s t : ChipState) → DarkensIn u (cycles_of set ShowArray) s t → LosesNone (AtRest set) s t
 loses_showing set u s t dark rest = dark_idle 0 [] s s t s.mode s.step s.flags rest.job (λ h. h) refl (loses_first set u s t dark)
 
 -- ---- a word
@@ -82,22 +94,22 @@ begins set word u c s m t first second takes =
 
 pub loses_announcing : (set : Set) (u v : ℕ) (s t : ChipState) → DarkensIn u (cycles_of set ProgramWord) s t → LosesWord set u v s t
 loses_announcing set u v s t dark takes =
-    leads_dark (place s.part u) (unit_bytes s.part.device v) u s (cycles_of set ProgramWord) s (announced set s) t takes.rest.job (announces set u s takes) dark
+    leads_dark (place s.part u) (unit_bytes s.part.device v) u s (cycles_of set ProgramWord) s (announced set s) t takes.takes.rest.job (announces set u s takes) dark
 
 pub loses_announced : (set : Set) (u v : ℕ) (s m t : ChipState) → m ≡ after_cycles u (cycles_of set ProgramWord) s → Darkens m t → LosesWord set u v s t
 loses_announced set u v s m t first dark takes =
     let k = turned set s in
-    dark_idle (place s.part u) (unit_bytes s.part.device v) s m t k.mode k.step k.flags takes.rest.job k.no_error (leads_word set u s m takes first ∙ k.is) dark
+    dark_idle (place s.part u) (unit_bytes s.part.device v) s m t k.mode k.step k.flags takes.takes.rest.job k.no_error (leads_word set u s m takes first ∙ k.is) dark
 
 -- ---- how it is polled
 
 shows_datum : (u v : ℕ) (s : ChipState) → TakesProgram Amd u s → ShowsDatum u v (programming Amd (place s.part u) (unit_bytes s.part.device v) (word_reads s) s)
 shows_datum u v s takes = record {
-  set = takes.rest.set;
+  set = takes.takes.rest.set;
   mode = refl;
   free = takes.outside refl;
   job = (refl, refl);
-  fault = subst (λ f. IsProgramFault (place s.part u) (unit_bytes s.part.device v) f) (sym takes.takes.1) tt;
+  fault = subst (λ f. IsProgramFault (place s.part u) (unit_bytes s.part.device v) f) (sym takes.takes.fault) tt;
 }
 
 answers_amd : {W : Type 0} (bytes : W → List ℕ) (new : W) (one : Bool) (u c : ℕ) (s b : ChipState) → BeginsWord Amd u (lane_of (wide s) (bytes new) c) s b → TakesProgram Amd u s
@@ -110,7 +122,7 @@ answers_amd bytes new true u c s b begins takes =
 -- a chip that programs answers its polls
 answers_own : {W : Type 0} (set : Set) (g : Geometry) (bytes : W → List ℕ) (new : W) (u c : ℕ) (s b : ChipState) → BeginsWord set u (lane_of (wide s) (bytes new) c) s b → TakesProgram set u s
     → Answers bytes (polling_for set g new) u c b
-answers_own Intel g bytes new u c s b begins takes = record { set = ap (λ (x : ChipState). x.part.set) (begins takes) ∙ takes.rest.set; mode = ap (λ (x : ChipState). x.mode) (begins takes) }
+answers_own Intel g bytes new u c s b begins takes = record { set = ap (λ (x : ChipState). x.part.set) (begins takes) ∙ takes.takes.rest.set; mode = ap (λ (x : ChipState). x.mode) (begins takes) }
 answers_own Amd g bytes new u c s b begins takes = answers_amd bytes new (g.lanes == 1) u c s b begins takes
 
 -- so it is with the polls that were chosen

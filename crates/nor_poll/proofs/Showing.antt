@@ -2,8 +2,8 @@
 use Rattle.std.proofs.Common.{◌≡◌, ◌+◌, ◌-◌, ◌==◌, ◌%◌, ◌⊎◌, inl, inr, ℕ, zero, suc, refl, sym, ap, subst, ◌∙◌, arith, nat_lt, bit_and, Bool, true, false, List, length, slice_index, if◌then◌else◌}
 use Rattle.std.proofs.lemmas.Bool.{cases_Bool}
 use Rattle.nor_cell.specs.Bits.{unit_len, unit_bytes}
-use Rattle.nor_cell.specs.Chip.{ChipState, Part, Job, Idle, Program, Erase, Pausing, Held, Fault, NoFault, TimeFault, AbortFault, place}
-use Rattle.nor_cell.specs.Intel.{bit_if, in_held}
+use Rattle.nor_cell.specs.Chip.{ChipState, Part, Job, Idle, Program, Erase, Pausing, Held, Fault, NoFault, TimeFault, AbortFault, place, holds_at}
+use Rattle.nor_cell.specs.Shown.{bit_if}
 use Rattle.nor_cell.specs.Amd.{shown, last_low}
 use Rattle.nor_cell.specs.Look.{look, look_at, job_after, held_after, broken_of, fault_with}
 use Rattle.nor_cell.specs.Steps.{Reads}
@@ -17,21 +17,17 @@ use Rattle.nor_poll.specs.Toggles.{is_complement, data_says, pair_says, names_jo
 use Rattle.nor_poll.specs.declared.watch.Seen.{Seen}
 use Rattle.nor_poll.specs.declared.watch.Seen.TheVariants.{Ready}
 use Rattle.nor_poll.proofs.Looking.{looked_by}
+use Rattle.nor_cell.proofs.Loading.{length-unit_bytes}
 use Rattle.nor_poll.proofs.Toggling.{program_status}
 use Rattle.nor_poll.proofs.Answering.{amd_reads, told_now, told_pair}
 
 -- ---- such a chip is one that a toggle poll tells of
 
-unit_size : (d : Device) (v : ℕ) → length (unit_bytes d v) ≡ unit_len d
-unit_size X8 v = refl
-unit_size X16 v = refl
-unit_size X16Byte v = refl
-
-ends_by : (job : Job) (held : Held) (part : Part) (u v : ℕ) → IsProgram (place part u) (unit_bytes part.device v) job → in_held held part (place part u) ≡ false → EndsAt job held part u
+ends_by : (job : Job) (held : Held) (part : Part) (u v : ℕ) → IsProgram (place part u) (unit_bytes part.device v) job → holds_at held part.blocks (place part u) ≡ false → EndsAt job held part u
 ends_by Idle held part u v h free = tt
 ends_by (Program p bytes left) held part u v h free =
     let from : p ≡ place part u = h.0 in
-    let size : length bytes ≡ unit_len part.device = ap length h.1 ∙ unit_size part.device v in
+    let size : length bytes ≡ unit_len part.device = ap length h.1 ∙ length-unit_bytes part.device v in
     (omega (arith, from), omega (arith, from, size), free)
 ends_by (Erase target left) held part u v h free = absurd h
 ends_by (Pausing b wait left) held part u v h free = absurd h
@@ -97,7 +93,7 @@ datum_next u v s m h k =
     record {
       set = ap (λ (x : Part). x.set) part ∙ h.set;
       mode = ap (λ (x : ChipState). x.mode) k.rest ∙ h.mode;
-      free = ap (λ (x : Part). in_held m.held x (place x u)) part ∙ (ap (λ (x : Held). in_held x s.part (place s.part u)) held ∙ h.free);
+      free = ap (λ (x : Part). holds_at m.held x.blocks (place x u)) part ∙ (ap (λ (x : Held). holds_at x s.part.blocks (place s.part u)) held ∙ h.free);
       job = subst (λ (x : Part). IsProgram (place x u) (unit_bytes x.device v) m.job) (sym part)
           (subst (IsProgram p bytes) (sym job) (next_job s.part.stuck s.job p bytes h.job));
       fault = subst (λ (x : Part). IsProgramFault (place x u) (unit_bytes x.device v) m.fault) (sym part)
@@ -106,13 +102,13 @@ datum_next u v s m h k =
 
 -- ---- while it programs, and where it broke off, it shows the complement
 
-complement : (x t6 : Bool) → (bit_and (program_status x t6) 0x80 == bit_if 0x80 x) ≡ true
+complement : (x toggle_6 : Bool) → (bit_and (program_status x toggle_6) 0x80 == bit_if 0x80 x) ≡ true
 complement true true = refl
 complement true false = refl
 complement false true = refl
 complement false false = refl
 
-broken_complement : (x t6 : Bool) → (bit_and (program_status x t6 + 0x20) 0x80 == bit_if 0x80 x) ≡ true
+broken_complement : (x toggle_6 : Bool) → (bit_and (program_status x toggle_6 + 0x20) 0x80 == bit_if 0x80 x) ≡ true
 broken_complement true true = refl
 broken_complement true false = refl
 broken_complement false true = refl
@@ -130,8 +126,8 @@ rests_by : (u v : ℕ) (t : ChipState) (job : Job) → IsProgram (place t.part u
 rests_by u v t Idle h far = refl
 rests_by u v t (Program q more left) h far =
     let x = nat_lt (v % 256) 0x80 in
-    let same : is_complement v (program_status (nat_lt (last_low t.part more) 0x80) t.t6) ≡ true =
-    ap (λ (b : Bool). bit_and (program_status b t.t6) 0x80 == bit_if 0x80 x) (low_bit t.part v more h.1) ∙ complement x t.t6 in
+    let same : is_complement v (program_status (nat_lt (last_low t.part more) 0x80) t.toggle_6) ≡ true =
+    ap (λ (b : Bool). bit_and (program_status b t.toggle_6) 0x80 == bit_if 0x80 x) (low_bit t.part v more h.1) ∙ complement x t.toggle_6 in
     let no : false ≡ true = sym far ∙ same in absurd cc
 rests_by u v t (Erase target left) h far = absurd h
 rests_by u v t (Pausing b wait left) h far = absurd h
@@ -142,8 +138,8 @@ whole_by u v t NoFault h far = refl
 whole_by u v t (TimeFault Idle) h far = let no : false ≡ true = h.0 in absurd cc
 whole_by u v t (TimeFault (Program q more left)) h far =
     let x = nat_lt (v % 256) 0x80 in
-    let same : is_complement v (program_status (nat_lt (last_low t.part more) 0x80) t.t6 + 0x20) ≡ true =
-    ap (λ (b : Bool). bit_and (program_status b t.t6 + 0x20) 0x80 == bit_if 0x80 x) (low_bit t.part v more h.1.1) ∙ broken_complement x t.t6 in
+    let same : is_complement v (program_status (nat_lt (last_low t.part more) 0x80) t.toggle_6 + 0x20) ≡ true =
+    ap (λ (b : Bool). bit_and (program_status b t.toggle_6 + 0x20) 0x80 == bit_if 0x80 x) (low_bit t.part v more h.1.1) ∙ broken_complement x t.toggle_6 in
     let no : false ≡ true = sym far ∙ same in absurd cc
 whole_by u v t (TimeFault (Erase target left)) h far = absurd h.1
 whole_by u v t (TimeFault (Pausing b wait left)) h far = absurd h.1
@@ -155,8 +151,8 @@ ready_now u v s t a it h shows far is =
     let off : is_complement v (shown t u) ≡ false = ap (is_complement v) (sym shows) ∙ far in
     let idle = rests_by u v t t.job h.job off in
     let none = whole_by u v t t.fault h.fault (ap (λ (j : Job). is_complement v (shown (record t { job = j }) u)) (sym idle) ∙ off) in
-    let ready : seen_fault t.fault (in_held t.held t.part (place t.part u)) ≡ Ready =
-    ap (λ (f : Fault). seen_fault f (in_held t.held t.part (place t.part u))) none ∙ ap (seen_fault NoFault) h.free in
+    let ready : seen_fault t.fault (holds_at t.held t.part.blocks (place t.part u)) ≡ Ready =
+    ap (λ (f : Fault). seen_fault f (holds_at t.held t.part.blocks (place t.part u))) none ∙ ap (seen_fault NoFault) h.free in
     told_now u s t it h.set idle (is ∙ sym ready)
 
 -- ---- what polls tell

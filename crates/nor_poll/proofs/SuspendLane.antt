@@ -1,7 +1,7 @@
 -- A suspend of one lane, by either set.
-use Rattle.std.proofs.Common.{◌≡◌, ◌+◌, ◌-◌, ◌*◌, ◌<◌, ◌≤◌, ◌⊎◌, inl, inr, ℕ, refl, sym, subst, ap, arith, ◌∙◌, Bool, true, false, ◌||◌, ◌==◌, List, [], length, slice_index}
-use Rattle.nor_cell.specs.Chip.{ChipState, Part, Mode, Array, Status, Job, Idle, Erase, Pausing, OneBlock, Held, NotHeld, Holds, runs, is_within, block, counted, reads_left}
-use Rattle.nor_cell.specs.Power.{Cuts, is_erasing_at, erases_at, holds_at, programs_at}
+use Rattle.std.proofs.Common.{◌≡◌, ◌+◌, ◌-◌, ◌*◌, ◌<◌, ◌≤◌, ◌⊎◌, inl, inr, ℕ, refl, sym, subst, ap, arith, ◌∙◌, Bool, true, false, ◌||◌, List, [], length, slice_index}
+use Rattle.nor_cell.specs.Chip.{ChipState, Part, Mode, Array, Status, Job, Idle, Erase, Pausing, OneBlock, Held, NotHeld, Holds, Flags, runs, is_within, block, counted, reads_left, holds_at}
+use Rattle.nor_cell.specs.Power.{Cuts, is_erasing_at, erases_at, programs_at}
 use Rattle.nor_cell.specs.declared.device.Span.{Span}
 use Rattle.nor_cell.specs.declared.device.Set.{Set}
 use Rattle.nor_cell.specs.declared.device.Set.TheVariants.{Intel, Amd}
@@ -20,9 +20,13 @@ use Rattle.nor_poll.specs.declared.codes.Command.TheVariants.{SuspendErase}
 use Rattle.nor_poll.specs.declared.codes.To.TheVariants.{Here}
 use Rattle.nor_poll.specs.declared.lanes.LaneState.{LaneState}
 use Rattle.nor_poll.specs.declared.polling.Polling.{Polling}
+use Rattle.nor_cell.proofs.Between.{waits_rests}
+use Rattle.nor_cell.proofs.Logic.{same_number, same_self}
+use Rattle.nor_poll.proofs.Between.{neither}
+use Rattle.nor_poll.proofs.Losing.{remains_then}
 use Rattle.nor_poll.proofs.Codes1.{suspends_idle as idle_1, suspends_busy as busy_1}
 use Rattle.nor_poll.proofs.Waiting.{part_after}
-use Rattle.nor_poll.proofs.Erasing.{Erases, erases_after, idle_after, within_still, within_ended}
+use Rattle.nor_poll.proofs.Erasing.{Erases, erases_after, idle_after, error_then, within_still, within_ended}
 use Rattle.nor_poll.proofs.Pausing.{Asked, Nothing, Ends, Stops, own_job, IsAsked, stands, Stopping, stops_after}
 
 -- ---- what a loss of power leaves
@@ -43,12 +47,15 @@ counts_still s m t e (inr h) = inr (h.0, e ∙ h.1)
 
 cut_stands : (b : ℕ) (s m t : ChipState) → StandsIn b s m → Cuts m t → ChangesInSuspend b s t
 cut_stands b s m t h cut = record {
-  part = ap (λ (x : ChipState). x.part) cut.rest ∙ h.keeps.part;
-  locks = ap (λ (x : ChipState). x.locks) cut.rest ∙ h.keeps.locks;
-  erases = ap (λ (x : ChipState). x.erases) cut.rest ∙ h.keeps.erases;
+  remains = remains_then s m t h.keeps.remains (record {
+    part = ap (λ (x : ChipState). x.part) cut.rest;
+    size = cut.size;
+    locks = ap (λ (x : ChipState). x.locks) cut.rest;
+    erases = ap (λ (x : ChipState). x.erases) cut.rest;
+  });
   suspends = counts_still s m t (ap (λ (x : ChipState). x.suspends) cut.rest) h.keeps.suspends;
-  size = cut.size ∙ h.keeps.size;
-  outside = λ p out. cut.kept p (h.quiet p (out_still b p s m h.keeps.part out)) (h.idle p) ∙ h.keeps.outside p out;
+  outside = λ p out. cut.kept p (h.quiet p (out_still b p s m h.keeps.remains.part out)) (h.idle p) ∙ h.keeps.outside p out;
+  error = λ on. h.keeps.error (sym (ap (λ (x : ChipState). x.flags.erase) cut.rest) ∙ on);
 }
 
 pub dark_stands : (b : ℕ) (s m t : ChipState) → StandsIn b s m → Darkens m t → ChangesInSuspend b s t
@@ -57,12 +64,10 @@ dark_stands b s m t h (inr cut) = cut_stands b s m t h cut
 
 pub loses_stands : (b : ℕ) (s m t : ChipState) → StandsIn b s m → Loses 0 [] m t → ChangesInSuspend b s t
 loses_stands b s m t h lost = record {
-  part = lost.keeps.part ∙ h.keeps.part;
-  locks = lost.keeps.locks ∙ h.keeps.locks;
-  erases = lost.keeps.erases ∙ h.keeps.erases;
+  remains = remains_then s m t h.keeps.remains lost.keeps.remains;
   suspends = counts_still s m t lost.keeps.suspends h.keeps.suspends;
-  size = lost.size ∙ h.keeps.size;
-  outside = λ p out. lost.above p (h.quiet p (out_still b p s m h.keeps.part out)) (omega arith) ∙ h.keeps.outside p out;
+  outside = λ p out. lost.above p (h.quiet p (out_still b p s m h.keeps.remains.part out)) (omega arith) ∙ h.keeps.outside p out;
+  error = λ on. h.keeps.error (lost.keeps.no_error on);
 }
 
 -- ---- chips that stand so
@@ -70,20 +75,13 @@ loses_stands b s m t h lost = record {
 abbrev Free : ℕ → Held → Type 0
 Free b held = (held ≡ NotHeld) ⊎ (holds_target held (OneBlock b) ≡ true)
 
-same_by : (a b : ℕ) → (a == b) ≡ true → a ≡ b
-same_by a b h = grind (arith, h)
-
 holds_quiet : (held : Held) (blocks : List Span) (b p : ℕ) → holds_target held (OneBlock b) ≡ true → is_within (block blocks b) p ≡ false → holds_at held blocks p ≡ false
 holds_quiet NotHeld blocks b p h out = refl
-holds_quiet (Holds c left) blocks b p h out = ap (λ (k : ℕ). is_within (block blocks k) p) (sym (same_by b c h)) ∙ out
+holds_quiet (Holds c left) blocks b p h out = ap (λ (k : ℕ). is_within (block blocks k) p) (sym (same_number b c h)) ∙ out
 
 free_quiet : (held : Held) (blocks : List Span) (b p : ℕ) → Free b held → is_within (block blocks b) p ≡ false → holds_at held blocks p ≡ false
 free_quiet held blocks b p (inl none) out = ap (λ (h : Held). holds_at h blocks p) none
 free_quiet held blocks b p (inr holds) out = holds_quiet held blocks b p holds out
-
-neither : (a b : Bool) → a ≡ false → b ≡ false → (a || b) ≡ false
-neither true b h k = cc
-neither false b h k = k
 
 stands_idle : (b : ℕ) (s m : ChipState) → m.job ≡ Idle → Free b m.held → ChangesInSuspend b s m → StandsIn b s m
 stands_idle b s m job free keeps = record {
@@ -106,14 +104,23 @@ stands_pausing b wait left s m job none keeps = record {
   idle = λ p. ap (λ (j : Job). programs_at j p) job;
 }
 
-pub same_in : (b : ℕ) (s m : ChipState) → m.part ≡ s.part → m.locks ≡ s.locks → m.erases ≡ s.erases → m.cells ≡ s.cells → (m.suspends ≡ s.suspends) ⊎ ((pauses s ≡ true) × (m.suspends ≡ counted s.suspends)) → ChangesInSuspend b s m
-same_in b s m part locks erases cells suspends = record {
-  part = part;
-  locks = locks;
-  erases = erases;
+pub same_in : (b : ℕ) (s m : ChipState) → m.part ≡ s.part → m.locks ≡ s.locks → m.erases ≡ s.erases → m.cells ≡ s.cells → m.flags ≡ s.flags
+    → (m.suspends ≡ s.suspends) ⊎ ((pauses s ≡ true) × (m.suspends ≡ counted s.suspends)) → ChangesInSuspend b s m
+same_in b s m part locks erases cells flags suspends = record {
+  remains = record { part = part; size = ap length cells; locks = locks; erases = erases };
   suspends = suspends;
-  size = ap length cells;
   outside = λ p out. ap (λ (l : List ℕ). slice_index l p) cells;
+  error = λ on. inl (sym (ap (λ (f : Flags). f.erase) flags) ∙ on);
+}
+
+-- after an erase that ran from there
+pub changed_by : (b : ℕ) (s x t : ChipState) → x.part ≡ s.part → x.locks ≡ s.locks → x.erases ≡ s.erases → x.suspends ≡ s.suspends → x.cells ≡ s.cells → x.flags ≡ s.flags
+    → ChangesWithinErase (OneBlock b) x t → ChangesInSuspend b s t
+changed_by b s x t part locks erases suspends cells flags w = record {
+  remains = remains_then s x t (record { part = part; size = ap length cells; locks = locks; erases = erases }) w.remains;
+  suspends = inl (w.suspends ∙ suspends);
+  outside = λ p out. w.outside p (out_still b p s x part out) ∙ ap (λ (l : List ℕ). slice_index l p) cells;
+  error = λ on. error_then (OneBlock b) s x t part (λ was. inl (sym (ap (λ (f : Flags). f.erase) flags) ∙ was)) (w.error on);
 }
 
 -- as it was
@@ -121,8 +128,8 @@ pub stands_first : (set : Set) (u b : ℕ) (state : LaneState) (s : ChipState) �
 stands_first set u b state s takes = first_by b s (stands b state s takes.is)
   where
     first_by : (b : ℕ) (s : ChipState) → (ErasesOn (OneBlock b) s × (s.held ≡ NotHeld)) ⊎ ((s.job ≡ Idle) × Free b s.held) → StandsIn b s s
-    first_by b s (inl (on, held)) = stands_erasing b on.left s s on.job held (same_in b s s refl refl refl refl (inl refl))
-    first_by b s (inr (idle, free)) = stands_idle b s s idle free (same_in b s s refl refl refl refl (inl refl))
+    first_by b s (inl (on, held)) = stands_erasing b on.left s s on.job held (same_in b s s refl refl refl refl refl (inl refl))
+    first_by b s (inr (idle, free)) = stands_idle b s s idle free (same_in b s s refl refl refl refl refl (inl refl))
 
 in_free : (b : ℕ) (held now : Held) → now ≡ held → Free b held → Free b now
 in_free b held now e h = subst (Free b) (sym e) h
@@ -132,44 +139,31 @@ stands_as : (b n : ℕ) (s : ChipState) (mode : Mode) (job : Job) (t : ChipState
 stands_as b n s mode Idle t (Nothing idle free) reads =
     let e = idle_after (record s { mode = mode; job = Idle }) n t refl reads in
     stands_idle b s t (ap (λ (x : ChipState). x.job) e) (in_free b s.held t.held (ap (λ (x : ChipState). x.held) e) free)
-    (same_in b s t (ap (λ (x : ChipState). x.part) e) (ap (λ (x : ChipState). x.locks) e) (ap (λ (x : ChipState). x.erases) e) (ap (λ (x : ChipState). x.cells) e) (inl (ap (λ (x : ChipState). x.suspends) e)))
+    (same_in b s t (ap (λ (x : ChipState). x.part) e) (ap (λ (x : ChipState). x.locks) e) (ap (λ (x : ChipState). x.erases) e) (ap (λ (x : ChipState). x.cells) e) (ap (λ (x : ChipState). x.flags) e) (inl (ap (λ (x : ChipState). x.suspends) e)))
 stands_as b n s mode job t (Ends {left = left} was none short few) reads = ends_as b left n s mode t none (erases_after (OneBlock b) left (record s { mode = mode; job = Erase (OneBlock b) left }) n t refl reads)
   where
-    changes : (b : ℕ) (s x t : ChipState) → x.part ≡ s.part → x.locks ≡ s.locks → x.erases ≡ s.erases → x.suspends ≡ s.suspends → x.cells ≡ s.cells → ChangesWithinErase (OneBlock b) x t → ChangesInSuspend b s t
-    changes b s x t part locks erases suspends cells w = record {
-      part = w.part ∙ part;
-      locks = w.locks ∙ locks;
-      erases = w.erases ∙ erases;
-      suspends = inl (w.suspends ∙ suspends);
-      size = w.size ∙ ap length cells;
-      outside = λ p out. w.outside p (out_still b p s x part out) ∙ ap (λ (l : List ℕ). slice_index l p) cells;
-    }
-
     ends_as : (b left n : ℕ) (s : ChipState) (mode : Mode) (t : ChipState) → s.held ≡ NotHeld → Erases (OneBlock b) left n (record s { mode = mode; job = Erase (OneBlock b) left }) t → StandsIn b s t
     ends_as b left n s mode t none (inl still) =
         let x = record s { mode = mode; job = Erase (OneBlock b) left } in
         stands_erasing b still.left s t (ap (λ (y : ChipState). y.job) still.is) (ap (λ (y : ChipState). y.held) still.is ∙ none)
-        (changes b s x t refl refl refl refl refl (within_still (OneBlock b) left n x t still))
+        (changed_by b s x t refl refl refl refl refl refl (within_still (OneBlock b) left n x t still))
     ends_as b left n s mode t none (inr ended) =
         let x = record s { mode = mode; job = Erase (OneBlock b) left } in
         stands_idle b s t (ap (λ (y : ChipState). y.job) ended.is) (inl (ap (λ (y : ChipState). y.held) ended.is ∙ none))
-        (changes b s x t refl refl refl refl refl (within_ended (OneBlock b) left n x t ended))
+        (changed_by b s x t refl refl refl refl refl refl (within_ended (OneBlock b) left n x t ended))
 stands_as b n s mode job t (Stops {left = left} was none long free more) reads =
     let pace = s.part.pace_suspend in
     stops_as b pace (left - pace) n s mode t long none (stops_after b pace (left - pace) (record s { mode = mode; job = Pausing b pace (left - pace) }) n t free refl reads)
   where
-    eq_refl : (d : ℕ) → (d == d) ≡ true
-    eq_refl d = grind arith
-
     stops_as : (b wait left n : ℕ) (s : ChipState) (mode : Mode) (t : ChipState) → pauses s ≡ true → s.held ≡ NotHeld → Stopping b wait left n (record s { mode = mode; job = Pausing b wait left }) t → StandsIn b s t
     stops_as b wait left n s mode t long none (inl still) =
         let e = still.is in
         stands_pausing b still.now left s t (ap (λ (x : ChipState). x.job) e) (ap (λ (x : ChipState). x.held) e ∙ none)
-        (same_in b s t (ap (λ (x : ChipState). x.part) e) (ap (λ (x : ChipState). x.locks) e) (ap (λ (x : ChipState). x.erases) e) (ap (λ (x : ChipState). x.cells) e) (inl (ap (λ (x : ChipState). x.suspends) e)))
+        (same_in b s t (ap (λ (x : ChipState). x.part) e) (ap (λ (x : ChipState). x.locks) e) (ap (λ (x : ChipState). x.erases) e) (ap (λ (x : ChipState). x.cells) e) (ap (λ (x : ChipState). x.flags) e) (inl (ap (λ (x : ChipState). x.suspends) e)))
     stops_as b wait left n s mode t long none (inr paused) =
         let e = paused.is in
-        stands_idle b s t (ap (λ (x : ChipState). x.job) e) (inr (ap (λ (x : ChipState). holds_target x.held (OneBlock b)) e ∙ eq_refl b))
-        (same_in b s t (ap (λ (x : ChipState). x.part) e) (ap (λ (x : ChipState). x.locks) e) (ap (λ (x : ChipState). x.erases) e) (ap (λ (x : ChipState). x.cells) e) (inr (long, ap (λ (x : ChipState). x.suspends) e)))
+        stands_idle b s t (ap (λ (x : ChipState). x.job) e) (inr (ap (λ (x : ChipState). holds_target x.held (OneBlock b)) e ∙ same_self b))
+        (same_in b s t (ap (λ (x : ChipState). x.part) e) (ap (λ (x : ChipState). x.locks) e) (ap (λ (x : ChipState). x.erases) e) (ap (λ (x : ChipState). x.cells) e) (ap (λ (x : ChipState). x.flags) e) (inr (long, ap (λ (x : ChipState). x.suspends) e)))
 
 pub stands_read : (set : Set) (b n : ℕ) (s m t : ChipState) → IsAsked set b s m → AfterReads m n t → StandsIn b s t
 stands_read set b n s m t now reads = stands_as b n s now.mode now.job t now.asked (subst (λ (x : ChipState). AfterReads x n t) now.is reads)
@@ -186,12 +180,12 @@ loses_asking Intel u b state s t takes (inr (inl dark)) = loses_second u b state
         → Darkens (after_cycle u (code 0xB0 Here) s) t → ChangesInSuspend b s t
     loses_second u b state s t takes (inl (on, held)) dark =
         let j = own_job u b Intel state s takes on held in
-        let e = busy_1 u 0xB0 s (omega arith) takes.set_is (ap runs on.job) ∙ j.is in
+        let e = busy_1 u 0xB0 s (omega arith) takes.waits.set (ap runs on.job) ∙ j.is in
         dark_stands b s (record s { job = j.job }) t (stands_as b 0 s s.mode j.job (record s { job = j.job }) j.asked NoReads) (subst (λ (x : ChipState). Darkens x t) e dark)
     loses_second u b state s t takes (inr (idle, free)) dark =
-        let e = idle_1 u s (record { set = takes.set_is; step = takes.step; job = idle; resets = refl }) in
+        let e = idle_1 u s (waits_rests Intel s takes.waits idle) in
         let x = record s { mode = Array } in
-        dark_stands b s x t (stands_idle b s x idle free (same_in b s x refl refl refl refl (inl refl))) (subst (λ (y : ChipState). Darkens y t) e dark)
+        dark_stands b s x t (stands_idle b s x idle free (same_in b s x refl refl refl refl refl (inl refl))) (subst (λ (y : ChipState). Darkens y t) e dark)
 loses_asking Intel u b state s t takes (inr (inr later)) = absurd later
 loses_asking Amd u b state s t takes (inl dark) = dark_stands b s s t (stands_first Amd u b state s takes) dark
 loses_asking Amd u b state s t takes (inr later) = absurd later
@@ -205,11 +199,11 @@ ends_at b s job held part u (Stops was none long free more) = tt
 
 answers_as : {W : Type 0} (bytes : W → List ℕ) (set : Set) (u c b : ℕ) (state : LaneState) (mode : Mode) (job : Job) (s : ChipState) → TakesSuspend set u b state s → Asked b s job → (set ≡ Intel → mode ≡ Status) → (set ≡ Amd → mode ≡ s.mode)
     → Answers bytes (erase_polling set) u c (record s { mode = mode; job = job })
-answers_as bytes Intel u c b state mode job s takes now status same = record { set = takes.set_is; mode = status refl }
+answers_as bytes Intel u c b state mode job s takes now status same = record { set = takes.waits.set; mode = status refl }
 answers_as bytes Amd u c b state mode job s takes now status same = record {
-  set = takes.set_is;
-  fault = takes.shows.0;
-  mode = λ none. same refl ∙ takes.shows.1 none;
+  set = takes.waits.set;
+  fault = takes.names;
+  mode = λ none. same refl ∙ takes.waits.mode refl;
   ends = ends_at b s job s.held s.part u now;
 }
 

@@ -4,7 +4,8 @@ use Rattle.std.proofs.lemmas.Bool.{cases_eq}
 use Rattle.std.proofs.Math.ListN.{length-set}
 use Rattle.nor_cell.specs.Bits.{unit_len}
 use Rattle.nor_cell.specs.Chip.{ChipState, Flags, Mode, Status, Job, Idle, Program, Erase, Pausing, runs, is_held, reads_left}
-use Rattle.nor_cell.specs.Intel.{IntelReads, ShowsMode, bit_if, status_of}
+use Rattle.nor_cell.specs.Intel.{IntelReads, ShowsMode, status_of}
+use Rattle.nor_cell.specs.Shown.{bit_if}
 use Rattle.nor_cell.specs.Look.{look_at, look, job_after}
 use Rattle.nor_cell.specs.Steps.{Reads, reads_of}
 use Rattle.nor_cell.specs.Wiring.{is_wiring}

@@ -8,7 +8,7 @@ use Rattle.nor_cell.specs.declared.device.Device.{Device}
 use Rattle.nor_word.specs.Word.{lane_of}
 use Rattle.nor_bus.specs.Bus.{BusState, lane, lanes_of, wide}
 use Rattle.nor_bus.specs.Driven.{AllLanes}
-use Rattle.nor_bus.proofs.Driving.{went_none}
+use Rattle.nor_bus.proofs.Driving.{went_none, lane_kept}
 use Rattle.nor_poll.specs.Told.{ToldAt}
 use Rattle.nor_poll.specs.Toggles.{ShowsToggle, ShowsDatum}
 use Rattle.nor_poll.specs.Reads.{AfterReads, NoReads, OneMore, WorksAfter, ReadBy, SomeLeft}
@@ -20,7 +20,7 @@ use Rattle.nor_poll.specs.declared.polling.Polling.{Polling}
 use Rattle.nor_poll.specs.declared.polling.Polling.TheVariants.{Status, Toggle, Data}
 use Rattle.nor_poll.proofs.Answering.{shows_next}
 use Rattle.nor_poll.proofs.Showing.{datum_next}
-use Rattle.nor_poll.proofs.Reading.{moved, read_then, after_then, shows_after}
+use Rattle.nor_poll.proofs.Reading.{read_then, after_then, shows_after}
 
 -- ---- a chip that answers polls goes on answering them
 
@@ -70,7 +70,7 @@ worked_more bytes how u k j f old mid after read told below working = record {
         let e = read.enough in
         let l = read.few in
         let same : read.reads ≡ r * (k + 1) - r = let x = reads_of r k in omega (arith, x, e, l) in
-        let there = moved old mid j read.went.kept.count below in
+        let there = lane_kept old mid j read.went.kept below in
         let left = (told j there (answers_after bytes how u j (lane old j) read.reads (lane mid j) (read.each j below) answers)).had working in
         subst (λ (n : ℕ). WorksAfter n (lane old j)) same (record { mid = lane mid j; reads = read.each j below; left = left }),
   );
@@ -81,7 +81,7 @@ pub lower_rest : {W : Type 0} (bytes : W → List ℕ) (how : Polling W) (u l m 
     → ((c : ℕ) → c < k → f c ≢ Working) → (c : ℕ) → c < k → Answers bytes how u c (lane old c) → (lane after c).job ≡ Idle
 lower_rest bytes how u l m k f old mid after read told there none c lower answers =
     let below : c < lanes_of old = omega (arith, lower, there) in
-    (told c (moved old mid c read.went.kept.count below) (answers_after bytes how u c (lane old c) read.reads (lane mid c) (read.each c below) answers)).idle (none c lower)
+    (told c (lane_kept old mid c read.went.kept below) (answers_after bytes how u c (lane old c) read.reads (lane mid c) (read.each c below) answers)).idle (none c lower)
 
 -- no poll yet
 pub no_polls : (r : ℕ) (old : BusState) → ReadBy (r * 0) (r * 0) old old
@@ -93,7 +93,7 @@ pub ends_waiting : {W : Type 0} (bytes : W → List ℕ) (how : Polling W) (u l 
     → ToldLanes bytes how u f mid after → lanes_of old ≤ 4 → ((c : ℕ) → c < 4 → f c ≢ Working)
     → (c : ℕ) → c < lanes_of old → Answers bytes how u c (lane old c) → IsReady u (lane old c) (f c) (lane after c)
 ends_waiting bytes how u l m n q f old mid after read last told few none c below answers =
-    let there = moved old mid c read.went.kept.count below in
+    let there = lane_kept old mid c read.went.kept below in
     let it = told c there (answers_after bytes how u c (lane old c) read.reads (lane mid c) (read.each c below) answers) in
     let rests = none c (omega arith) in
     record {

@@ -3,22 +3,24 @@ use Rattle.std.proofs.Common.{◌≡◌, ◌+◌, ◌-◌, ◌*◌, ◌<◌, ◌
 use Rattle.std.proofs.lemmas.Bool.{cases_lt}
 use Rattle.std.proofs.Math.Nat.{zero-div}
 use Rattle.nor_cell.specs.Bits.{has_bit, unit_bytes, unit_len}
-use Rattle.nor_cell.specs.Chip.{ChipState, Flags, Fault, NoFault, Array, Status, Job, Idle, Step, Rest, place}
-use Rattle.nor_cell.specs.Look.{flags_with, fault_with}
-use Rattle.nor_cell.specs.Resting.{can_reset}
+use Rattle.nor_cell.specs.Chip.{ChipState, Flags, Status, Job, Idle, Step, Rest, place}
+use Rattle.nor_cell.specs.Look.{flags_with}
+use Rattle.nor_cell.specs.Between.{can_reset, no_flags, AtRest, IsClear, TakesCommands}
+use Rattle.nor_cell.specs.Power.{is_erasing_at}
+use Rattle.nor_cell.proofs.Between.{same_fault, resets_broken}
 use Rattle.nor_cell.specs.declared.device.Set.{Set}
 use Rattle.nor_cell.specs.declared.device.Set.TheVariants.{Intel, Amd}
 use Rattle.nor_cell.specs.declared.geometry.Geometry.{Geometry}
 use Rattle.nor_word.specs.Word.{lane_of}
 use Rattle.nor_bus.specs.Bus.{BusState, lane, lanes_of, wide}
 use Rattle.nor_bus.specs.Driven.{Reaches, Went, AllLanes, Counted, Darkens, EachPart}
-use Rattle.nor_bus.proofs.Driving.{went_then, lost_then, reaches_kept}
-use Rattle.nor_poll.specs.Losing.{Loses}
+use Rattle.nor_bus.proofs.Driving.{went_then, lost_then, reaches_kept, lane_kept}
+use Rattle.nor_poll.specs.Losing.{Loses, LosesNone}
 use Rattle.nor_poll.specs.Polled.{Answers, working_reads}
 use Rattle.nor_poll.specs.Reads.{AfterReads, WorksAfter, ReadBy, DarkensReading}
-use Rattle.nor_poll.specs.Rest.{AtRest, IsClear, SettlesUnbroken, LosesNone, settled, cleared_flags, cleared_fault, takes_reset}
+use Rattle.nor_poll.specs.Rest.{SettlesUnbroken, settled, cleared_flags}
 use Rattle.nor_poll.specs.Wait.{IsReady, WorksFor, WaitHalts, wait_most}
-use Rattle.nor_poll.specs.Word.{TakesProgram, TakesCommands, BeginsWord, ProgramsWord, LosesWord, TearsWord, TellsBroken, EndsWithin, IsStuckBy, WordHalts, is_broken, programming, work_mode, word_most, word_stuck}
+use Rattle.nor_poll.specs.Word.{TakesProgram, BeginsWord, ProgramsWord, LosesWord, TearsWord, TellsBroken, EndsWithin, IsStuckBy, WordHalts, is_broken, programming, work_mode, word_most, word_stuck}
 use Rattle.nor_poll.specs.Words.{word_reads, breaks, Stores}
 use Rattle.nor_poll.specs.declared.lanes.Halt.{Halt}
 use Rattle.nor_poll.specs.declared.lanes.Halt.TheVariants.{Off, Stuck}
@@ -27,9 +29,8 @@ use Rattle.nor_poll.specs.declared.watch.Seen.TheVariants.{Ready}
 use Rattle.nor_poll.specs.declared.polling.Polling.{Polling}
 use Rattle.nor_poll.specs.declared.polling.Polling.TheVariants.{Status, Toggle, Data}
 use Rattle.nor_bus.proofs.Counting.{counted_exactly, counted_then}
-use Rattle.nor_poll.proofs.Losing.{holds_stored, dark_idle, torn_none, loses_torn}
-use Rattle.nor_poll.proofs.Reading.{moved}
-use Rattle.nor_poll.proofs.Programming.{Programs, HasStored, programs_after, stored, toggling, break_job, stored_idle, works_still, tells_broken, tears, dark_programs, loses_later}
+use Rattle.nor_poll.proofs.Losing.{holds_stored, dark_idle, torn_none, left_torn}
+use Rattle.nor_poll.proofs.Programming.{work_array, work_resets, Programs, HasStored, programs_after, stored, toggling, break_job, stored_idle, works_still, tells_broken, tears, dark_programs, loses_later}
 
 abbrev bytes_of : ℕ → ChipState → List ℕ
 bytes_of v s = unit_bytes s.part.device v
@@ -40,7 +41,7 @@ begun kind u v s = programming kind (place s.part u) (bytes_of v s) (word_reads 
 programs_read : (kind : Set) (u v n : ℕ) (s b m : ChipState) → TakesProgram kind u s → BeginsWord kind u v s b → AfterReads b n m → Programs kind (place s.part u) (bytes_of v s) (word_reads s) n s m
 programs_read kind u v n s b m takes begins reads =
     let h : AfterReads (begun kind u v s) n m = subst (λ (x : ChipState). AfterReads x n m) (begins takes) reads in
-    programs_after kind (place s.part u) (bytes_of v s) (word_reads s) s n m takes.rest.set h
+    programs_after kind (place s.part u) (bytes_of v s) (word_reads s) s n m takes.takes.rest.set h
 
 -- ---- a program that ends
 
@@ -48,56 +49,51 @@ ends_stored : (kind : Set) (u v : ℕ) (s b m : ChipState) (it : Seen) → Takes
 ends_stored kind u v s b m it takes begins ready =
     stored_idle kind (place s.part u) (bytes_of v s) (word_reads s) ready.polls s m (programs_read kind u v ready.polls s b m takes begins ready.reads) ready.job
 
-resets_by : (kind : Set) (broken : Bool) (p : ℕ) (bytes : List ℕ) (fault : Fault) → (kind ≡ Amd → fault ≡ NoFault) → takes_reset kind (work_mode kind) (fault_with kind (break_job broken p bytes) fault) ≡ true
-resets_by Intel broken p bytes fault none = refl
-resets_by Amd true p bytes fault none = refl
-resets_by Amd false p bytes fault none = ap (can_reset Amd Array) (none refl)
-
-no_fault : (kind : Set) (s : ChipState) → TakesCommands kind s → kind ≡ Amd → s.fault ≡ NoFault
-no_fault Intel s takes is = cc
-no_fault Amd s takes is = takes.1
-
-rest_stored : (kind : Set) (p : ℕ) (bytes : List ℕ) (s m : ChipState) → AtRest kind s → TakesCommands kind s → HasStored kind p bytes s m → AtRest kind m
-rest_stored kind p bytes s m rest takes h = record {
-  set = ap (λ (x : ChipState). x.part.set) h.is ∙ rest.set;
+rest_stored : (kind : Set) (p : ℕ) (bytes : List ℕ) (s m : ChipState) → TakesCommands kind s → HasStored kind p bytes s m → AtRest kind m
+rest_stored kind p bytes s m takes h = record {
+  set = ap (λ (x : ChipState). x.part.set) h.is ∙ takes.rest.set;
   step = ap (λ (x : ChipState). x.step) h.is;
   job = ap (λ (x : ChipState). x.job) h.is;
-  resets = ap (λ (x : ChipState). takes_reset kind x.mode x.fault) h.is ∙ resets_by kind (breaks p bytes s) p bytes s.fault (no_fault kind s takes);
+  resets = ap (λ (x : ChipState). can_reset kind x.mode x.fault) h.is
+      ∙ resets_broken kind (work_mode kind) (break_job (breaks p bytes s) p bytes) s.fault (work_resets kind s.fault takes.fault);
 }
 
 -- the bit of a lane tells whether it broke off
 pub tells : (kind : Set) (u v : ℕ) (s b m : ChipState) (it : Seen) (bit : Bool) → BeginsWord kind u v s b → (TakesProgram kind u s → IsReady u b it m) → bit ≡ is_broken it → TellsBroken kind u bit v s
 tells kind u v s b m it bit begins waits is takes =
     let ready = waits takes in
-    is ∙ tells_broken kind u (place s.part u) (bytes_of v s) s m it takes.rest.set takes.takes (ends_stored kind u v s b m it takes begins ready) ready.told
+    is ∙ tells_broken kind u (place s.part u) (bytes_of v s) s m it takes.takes.rest.set takes.takes (ends_stored kind u v s b m it takes begins ready) ready.told
 
 no_bit : (bits k : ℕ) → bits ≡ 0 → has_bit bits k ≡ false
 no_bit bits k none = ap (λ (n : ℕ). has_bit n k) none ∙ ap (λ (q : ℕ). q % 2 == 1) (zero-div (2 ^ k))
 
-clear_by : (kind : Set) (p : ℕ) (bytes cells : List ℕ) (t6 t2 : Bool) (s : ChipState) → TakesCommands kind s → IsClear kind (toggling t6 t2 (stored kind false p bytes cells s))
-clear_by Intel p bytes cells t6 t2 s takes = refl
-clear_by Amd p bytes cells t6 t2 s takes = (refl, takes.1)
+no_flag : (kind : Set) (p : ℕ) (bytes : List ℕ) (flags : Flags) → kind ≡ Intel → flags_with kind (break_job false p bytes) (cleared_flags kind flags) ≡ no_flags
+no_flag Intel p bytes flags e = refl
+no_flag Amd p bytes flags e = cc
 
 clear_if : (kind : Set) (p : ℕ) (bytes : List ℕ) (s m : ChipState) → TakesCommands kind s → HasStored kind p bytes s m → breaks p bytes s ≡ false → IsClear kind m
 clear_if kind p bytes s m takes h whole =
-    subst (λ (x : ChipState). IsClear kind x) (sym (h.is ∙ ap (λ (b : Bool). toggling m.t6 m.t2 (stored kind b p bytes m.cells s)) whole)) (clear_by kind p bytes m.cells m.t6 m.t2 s takes)
+    let is : m ≡ toggling m.toggle_6 m.toggle_2 (stored kind false p bytes m.cells s) = h.is ∙ ap (λ (b : Bool). toggling m.toggle_6 m.toggle_2 (stored kind b p bytes m.cells s)) whole in
+    record {
+      takes = record {
+        rest = rest_stored kind p bytes s m takes h;
+        mode = λ e. ap (λ (x : ChipState). x.mode) is ∙ work_array kind e;
+        fault = ap (λ (x : ChipState). x.fault) is ∙ (same_fault kind s.fault ∙ takes.fault);
+      };
+      flags = λ e. ap (λ (x : ChipState). x.flags) is ∙ no_flag kind p bytes s.flags e;
+    }
 
 same_cleared_flags : (kind : Set) (broken : Job) (flags : Flags) → cleared_flags kind (flags_with kind broken (cleared_flags kind flags)) ≡ cleared_flags kind flags
 same_cleared_flags Intel broken flags = refl
 same_cleared_flags Amd broken flags = refl
 
-same_cleared_fault : (kind : Set) (broken : Job) (fault : Fault) → cleared_fault kind (fault_with kind broken fault) ≡ cleared_fault kind fault
-same_cleared_fault Intel broken fault = refl
-same_cleared_fault Amd broken fault = refl
-
-as_before : (kind : Set) (broken : Bool) (p : ℕ) (bytes cells : List ℕ) (t6 t2 : Bool) (s : ChipState) → AtRest kind s
-    → settled kind (toggling t6 t2 (stored kind broken p bytes cells s)) ≡ record (settled kind s) { cells = cells; t6 = t6; t2 = t2 }
-as_before kind broken p bytes cells t6 t2 s rest =
+as_before : (kind : Set) (broken : Bool) (p : ℕ) (bytes cells : List ℕ) (toggle_6 toggle_2 : Bool) (s : ChipState) → AtRest kind s
+    → settled kind (toggling toggle_6 toggle_2 (stored kind broken p bytes cells s)) ≡ record (settled kind s) { cells = cells; toggle_6 = toggle_6; toggle_2 = toggle_2 }
+as_before kind broken p bytes cells toggle_6 toggle_2 s rest =
     let job = break_job broken p bytes in
-    let before = record (settled kind s) { cells = cells; t6 = t6; t2 = t2 } in
-    ap (λ (f : Flags). record before { step = Rest; job = Idle; flags = f; fault = cleared_fault kind (fault_with kind job s.fault) }) (same_cleared_flags kind job s.flags)
-    ∙ (ap (λ (f : Fault). record before { step = Rest; job = Idle; fault = f }) (same_cleared_fault kind job s.fault)
-    ∙ (ap (λ (k : Step). record before { step = k; job = Idle }) (sym rest.step) ∙ ap (λ (j : Job). record before { job = j }) (sym rest.job)))
+    let before = record (settled kind s) { cells = cells; toggle_6 = toggle_6; toggle_2 = toggle_2 } in
+    ap (λ (f : Flags). record before { step = Rest; job = Idle; flags = f }) (same_cleared_flags kind job s.flags)
+    ∙ (ap (λ (k : Step). record before { step = k; job = Idle }) (sym rest.step) ∙ ap (λ (j : Job). record before { job = j }) (sym rest.job))
 
 -- the call is done
 pub word_done : (kind : Set) (u v bits k : ℕ) (s b m t : ChipState) (it : Seen) → BeginsWord kind u v s b → (TakesProgram kind u s → IsReady u b it m) → has_bit bits k ≡ is_broken it
@@ -107,28 +103,28 @@ word_done kind u v bits k s b m t it begins waits is settles takes =
     let bytes = bytes_of v s in
     let h = ends_stored kind u v s b m it takes begins (waits takes) in
     let whole = λ (none : bits ≡ 0). sym (tells kind u v s b m it (has_bit bits k) begins waits is takes) ∙ no_bit bits k none in
-    let e : t ≡ settled kind m = settles (rest_stored kind p bytes s m takes.rest takes.takes h) (λ none. clear_if kind p bytes s m takes.takes h (whole none)) in
+    let e : t ≡ settled kind m = settles (rest_stored kind p bytes s m takes.takes h) (λ none. clear_if kind p bytes s m takes.takes h (whole none)) in
     let cells : t.cells ≡ m.cells = ap (λ (x : ChipState). x.cells) e in
-    let six : t.t6 ≡ m.t6 = ap (λ (x : ChipState). x.t6) e in
-    let two : t.t2 ≡ m.t2 = ap (λ (x : ChipState). x.t2) e in
+    let six : t.toggle_6 ≡ m.toggle_6 = ap (λ (x : ChipState). x.toggle_6) e in
+    let two : t.toggle_2 ≡ m.toggle_2 = ap (λ (x : ChipState). x.toggle_2) e in
     let stores = subst (λ (x : List ℕ). Stores p bytes s x) (sym cells) h.cells in
     record {
       cells = stores;
       holds = λ unbroken clears. holds_stored (unit_len s.part.device) s.part.weak p bytes s.cells t.cells unbroken stores clears;
-      rest = e ∙ (ap (settled kind) h.is ∙ (as_before kind (breaks p bytes s) p bytes m.cells m.t6 m.t2 s takes.rest
-          ∙ (ap (λ (x : List ℕ). record (settled kind s) { cells = x; t6 = m.t6; t2 = m.t2 }) (sym cells)
-          ∙ (ap (λ (x : Bool). record (settled kind s) { cells = t.cells; t6 = x; t2 = m.t2 }) (sym six)
-          ∙ ap (λ (x : Bool). record (settled kind s) { cells = t.cells; t6 = t.t6; t2 = x }) (sym two)))));
+      rest = e ∙ (ap (settled kind) h.is ∙ (as_before kind (breaks p bytes s) p bytes m.cells m.toggle_6 m.toggle_2 s takes.takes.rest
+          ∙ (ap (λ (x : List ℕ). record (settled kind s) { cells = x; toggle_6 = m.toggle_6; toggle_2 = m.toggle_2 }) (sym cells)
+          ∙ (ap (λ (x : Bool). record (settled kind s) { cells = t.cells; toggle_6 = x; toggle_2 = m.toggle_2 }) (sym six)
+          ∙ ap (λ (x : Bool). record (settled kind s) { cells = t.cells; toggle_6 = t.toggle_6; toggle_2 = x }) (sym two)))));
       still = λ intel. let same = h.still intel in (six ∙ same.0, two ∙ same.1);
     }
 
 -- power went after the program had ended
-pub loses_ended : (kind : Set) (u v : ℕ) (s b m t : ChipState) (it : Seen) → BeginsWord kind u v s b → (TakesProgram kind u s → IsReady u b it m) → LosesNone kind m t → LosesWord kind u v s t
+pub loses_ended : (kind : Set) (u v : ℕ) (s b m t : ChipState) (it : Seen) → BeginsWord kind u v s b → (TakesProgram kind u s → IsReady u b it m) → LosesNone (AtRest kind) m t → LosesWord kind u v s t
 loses_ended kind u v s b m t it begins waits loses takes =
     let p = place s.part u in
     let bytes = bytes_of v s in
     let h = ends_stored kind u v s b m it takes begins (waits takes) in
-    loses_later kind p bytes s m t h (loses (rest_stored kind p bytes s m takes.rest takes.takes h))
+    loses_later kind p bytes s m t h (loses (rest_stored kind p bytes s m takes.takes h))
 
 -- ---- power goes while a chip is at rest
 
@@ -137,7 +133,7 @@ dark_rest kind p bytes s t rest dark = dark_idle p bytes s s t s.mode s.step s.f
 
 -- nothing was lost, of a chip that was to be programmed
 pub loses_any : (p : ℕ) (bytes : List ℕ) (s t : ChipState) → Loses 0 [] s t → Loses p bytes s t
-loses_any p bytes s t h = loses_torn p bytes s.cells s t (torn_none p bytes s.cells) h.keeps h.size (λ q free. h.above q free (omega arith))
+loses_any p bytes s t h = left_torn (is_erasing_at s) p bytes s.cells s t (torn_none p bytes s.cells) h.keeps (λ q free. h.above q free (omega arith))
 
 -- ---- lanes past the last one, and the number of polls
 
@@ -199,7 +195,7 @@ stuck_word kind u v n limit s b begins enough working takes few =
     stuck_if s.part.stuck n limit (word_reads s)
     (λ free. works_still kind (place s.part u) (bytes_of v s) (word_reads s) n s works.mid (programs_read kind u v n s b works.mid takes begins works.reads) free works.left) enough few
 
-went_by : (n : ℕ) (a b : BusState) → ReadBy n n a b → Went n n a b
+pub went_by : (n : ℕ) (a b : BusState) → ReadBy n n a b → Went n n a b
 went_by n a b h = let e : h.reads ≡ n = let p = h.enough in let q = h.few in omega (arith, p, q) in subst (λ (k : ℕ). Went k k a b) e h.went
 
 pub word_halts : {W : Type 0} (bytes : W → List ℕ) (how : Polling W) (kind : Set) (width u limit first : ℕ) (g : Geometry) (word : List ℕ) (old mid after : BusState) (halt : Halt)
@@ -210,7 +206,7 @@ pub word_halts : {W : Type 0} (bytes : W → List ℕ) (how : Polling W) (kind :
 word_halts bytes how kind width u limit first g word old mid after Off fits same went begins answers h = (
   lost_then first first (wait_most how limit) (word_most kind limit) old mid after fits went h.0,
   λ reaches k below.
-      dark_word kind u (lane_of (wide (lane old k)) word k) (lane old k) (lane mid k) (lane after k) (begins reaches k below) (h.1 k (moved old mid k went.kept.count below)),
+      dark_word kind u (lane_of (wide (lane old k)) word k) (lane old k) (lane mid k) (lane after k) (begins reaches k below) (h.1 k (lane_kept old mid k went.kept below)),
 )
 word_halts bytes how kind width u limit first g word old mid after (Stuck n) fits same went begins answers h =
     let polls = working_reads how * limit in
@@ -219,7 +215,7 @@ word_halts bytes how kind width u limit first g word old mid after (Stuck n) fit
       went_then first first polls polls (word_stuck kind limit) (word_stuck kind limit) old mid after (omega (arith, same)) (omega (arith, same)) went (went_by polls mid after reads),
       λ reaches k below.
           tears_word kind u (lane_of (wide (lane old k)) word k) reads.reads (lane old k) (lane mid k) (lane after k) (begins reaches k below)
-          (reads.each k (moved old mid k went.kept.count below)),
+          (reads.each k (lane_kept old mid k went.kept below)),
       λ reaches.
           let now = reaches_kept width g u old mid went.kept reaches in
           let below = subst (λ (m : ℕ). n < m) (sym reaches.own.count) h.0 in

@@ -1,7 +1,7 @@
 -- The command cycles of both sets: which codes they write, where, and what they make of a chip.
 use Rattle.std.specs.Prelude.{◌⊎◌, ℕ, List, [], ◌∷◌, length}
 use Rattle.nor_cell.specs.Chip.{ChipState}
-use Rattle.nor_cell.specs.Amd.{a1, a2}
+use Rattle.nor_cell.specs.Amd.{first_address, second_address}
 use Rattle.nor_cell.specs.Steps.{written}
 use Rattle.nor_cell.specs.declared.device.Device.{Device}
 use Rattle.nor_cell.specs.declared.device.Set.{Set}
@@ -12,13 +12,13 @@ use Rattle.nor_poll.specs.declared.codes.To.{To}
 use Rattle.nor_poll.specs.declared.codes.To.TheVariants.{Here, First, Second}
 use Rattle.nor_poll.specs.declared.codes.Cycle.{Cycle}
 use Rattle.nor_poll.specs.declared.codes.Command.{Command}
-use Rattle.nor_poll.specs.declared.codes.Command.TheVariants.{ProgramWord, EraseBlock, SuspendErase, ShowStatus, ClearErrors, ShowArray}
+use Rattle.nor_poll.specs.declared.codes.Command.TheVariants.{ProgramWord, EraseBlock, EraseAll, SuspendErase, ShowStatus, ClearErrors, ShowArray, Reset}
 
 -- the call's own address, or a command address of the device
 abbrev pub address : Device → ℕ → To → ℕ
 address device u Here = u
-address device u First = a1 device
-address device u Second = a2 device
+address device u First = first_address device
+address device u Second = second_address device
 
 abbrev pub code : ℕ → To → Cycle
 code n to = record { to = to; code = n }
@@ -31,16 +31,20 @@ unlocked cycles = code 0xAA First ∷ code 0x55 Second ∷ cycles
 abbrev pub cycles_of : Set → Command → List Cycle
 cycles_of Intel ProgramWord = code 0x50 Here ∷ code 0x40 Here ∷ []
 cycles_of Intel EraseBlock = code 0x50 Here ∷ code 0x20 Here ∷ code 0xD0 Here ∷ []
+cycles_of Intel EraseAll = []
 cycles_of Intel SuspendErase = code 0xB0 Here ∷ code 0x70 Here ∷ []
 cycles_of Intel ShowStatus = code 0x70 Here ∷ []
 cycles_of Intel ClearErrors = code 0x50 Here ∷ code 0xFF Here ∷ []
 cycles_of Intel ShowArray = code 0xFF Here ∷ []
+cycles_of Intel Reset = code 0xFF Here ∷ []
 cycles_of Amd ProgramWord = unlocked (code 0xA0 First ∷ [])
 cycles_of Amd EraseBlock = unlocked (code 0x80 First ∷ unlocked (code 0x30 Here ∷ []))
+cycles_of Amd EraseAll = unlocked (code 0x80 First ∷ unlocked (code 0x10 First ∷ []))
 cycles_of Amd SuspendErase = code 0xB0 Here ∷ []
 cycles_of Amd ShowStatus = []
 cycles_of Amd ClearErrors = code 0xF0 Here ∷ []
 cycles_of Amd ShowArray = []
+cycles_of Amd Reset = code 0xF0 Here ∷ []
 
 -- how many they are
 abbrev pub cycle_count : Set → Command → ℕ

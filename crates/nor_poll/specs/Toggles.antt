@@ -1,8 +1,8 @@
 -- What reads of a chip of set 0002 tell, by the bits that toggle.
 use Rattle.std.specs.Prelude.{◌≡◌, ◌≤◌, ◌+◌, ◌%◌, ◌==◌, ◌&&◌, ◌||◌, ℕ, Bool, true, false, List, length, bit_and, bit_or, bit_xor, nat_lt, if◌then◌else◌}
 use Rattle.nor_cell.specs.Bits.{unit_len, unit_bytes}
-use Rattle.nor_cell.specs.Chip.{ChipState, Part, Array, Job, Idle, Program, Erase, Pausing, Held, Fault, NoFault, TimeFault, AbortFault, runs, place}
-use Rattle.nor_cell.specs.Intel.{bit_if, in_held}
+use Rattle.nor_cell.specs.Chip.{ChipState, Part, Array, Job, Idle, Program, Erase, Pausing, Held, Fault, NoFault, TimeFault, AbortFault, runs, place, holds_at}
+use Rattle.nor_cell.specs.Shown.{bit_if}
 use Rattle.nor_cell.specs.Amd.{is_fault}
 use Rattle.nor_cell.specs.declared.device.Set.TheVariants.{Amd}
 use Rattle.nor_poll.specs.Told.{ToldAt}
@@ -61,7 +61,7 @@ data_says v first second = if is_complement v second then pair_says first second
 -- a program under way ends with unit u, which isn't in a held block
 abbrev pub EndsAt : Job → Held → Part → ℕ → Type 0
 EndsAt Idle held part u = Unit {0}
-EndsAt (Program p bytes left) held part u = (p ≤ place part u) × (place part u + unit_len part.device ≡ p + length bytes) × (in_held held part (place part u) ≡ false)
+EndsAt (Program p bytes left) held part u = (p ≤ place part u) × (place part u + unit_len part.device ≡ p + length bytes) × (holds_at held part.blocks (place part u) ≡ false)
 EndsAt (Erase target left) held part u = Unit {0}
 EndsAt (Pausing b wait left) held part u = Unit {0}
 
@@ -95,7 +95,7 @@ IsProgramFault p bytes AbortFault = ⊥
 pub record ShowsDatum (u v : ℕ) (s : ChipState) : Type 0 where
   pub set : s.part.set ≡ Amd
   pub mode : s.mode ≡ Array
-  pub free : in_held s.held s.part (place s.part u) ≡ false
+  pub free : holds_at s.held s.part.blocks (place s.part u) ≡ false
   pub job : IsProgram (place s.part u) (unit_bytes s.part.device v) s.job
   pub fault : IsProgramFault (place s.part u) (unit_bytes s.part.device v) s.fault
 

@@ -1,7 +1,6 @@
 -- What a poll tells of a chip.
 use Rattle.std.specs.Prelude.{◌≡◌, ◌≢◌, ◌<◌, ◌⊎◌, ℕ, Bool, true, false, List, slice_index_or, if◌then◌else◌}
-use Rattle.nor_cell.specs.Chip.{ChipState, Status, Flags, Fault, NoFault, TimeFault, AbortFault, Idle, runs, is_held, reads_left, place}
-use Rattle.nor_cell.specs.Intel.{in_held}
+use Rattle.nor_cell.specs.Chip.{ChipState, Status, Flags, Fault, NoFault, TimeFault, AbortFault, Idle, runs, is_held, reads_left, place, holds_at}
 use Rattle.nor_cell.specs.Look.{look, looked, LooksTo}
 use Rattle.nor_cell.specs.declared.device.Set.{Set}
 use Rattle.nor_cell.specs.declared.device.Set.TheVariants.{Intel, Amd}
@@ -36,13 +35,13 @@ seen_fault AbortFault here = Broken Abort
 -- what is to be told of a chip that runs no job, by unit u
 abbrev pub seen_idle : Set → ℕ → ChipState → Seen
 seen_idle Intel u s = seen false (is_held s.held) s.flags
-seen_idle Amd u s = seen_fault s.fault (in_held s.held s.part (place s.part u))
+seen_idle Amd u s = seen_fault s.fault (holds_at s.held s.part.blocks (place s.part u))
 
 -- A read has looked at the chip, and changed no more than a look does, and the toggle bits of a chip of set 0002.
 pub record IsLooked (s t : ChipState) : Type 0 where
   pub cells : LooksTo s (look s) t.cells
-  pub rest : t ≡ record (looked (look s) s) { cells = t.cells; t6 = t.t6; t2 = t.t2 }
-  pub still : s.part.set ≡ Intel → (t.t6 ≡ s.t6) × (t.t2 ≡ s.t2)
+  pub rest : t ≡ record (looked (look s) s) { cells = t.cells; toggle_6 = t.toggle_6; toggle_2 = t.toggle_2 }
+  pub still : s.part.set ≡ Intel → (t.toggle_6 ≡ s.toggle_6) × (t.toggle_2 ≡ s.toggle_2)
 
 -- its job has reads left, or it is stuck
 abbrev pub HasLeft : ChipState → Type 0

@@ -1,8 +1,9 @@
 -- Programming a word, by the calls of either set.
 use Rattle.std.specs.Prelude.{◌≡◌, ◌<◌, ◌≤◌, ◌+◌, ◌*◌, min, ℕ, List, Bool, true, false}
 use Rattle.nor_cell.specs.Bits.{unit_bytes, has_bit}
-use Rattle.nor_cell.specs.Chip.{ChipState, Mode, Array, Status, Rest, NoFault, Program, has_blocks, block_of, is_locked, place}
-use Rattle.nor_cell.specs.Intel.{held_off, in_held}
+use Rattle.nor_cell.specs.Chip.{ChipState, Mode, Array, Status, Rest, Program, has_blocks, block_of, is_locked, place, holds_at}
+use Rattle.nor_cell.specs.Between.{TakesCommands}
+use Rattle.nor_cell.specs.Look.{held_off}
 use Rattle.nor_cell.specs.declared.device.Set.{Set}
 use Rattle.nor_cell.specs.declared.device.Set.TheVariants.{Intel, Amd}
 use Rattle.nor_cell.specs.declared.geometry.Geometry.{Geometry}
@@ -10,7 +11,7 @@ use Rattle.nor_word.specs.Word.{lane_of}
 use Rattle.nor_bus.specs.Bus.{BusState, lane, lanes_of, wide}
 use Rattle.nor_bus.specs.Driven.{Reaches, Went, Lost, AllLanes, Counted, EachPart}
 use Rattle.nor_poll.specs.Losing.{Tears, Loses}
-use Rattle.nor_poll.specs.Rest.{AtRest, settled, cleared_flags}
+use Rattle.nor_poll.specs.Rest.{settled, cleared_flags}
 use Rattle.nor_poll.specs.Words.{word_reads, unit_breaks, StoresUnit, OnlyClears, HoldsUnit}
 use Rattle.nor_poll.specs.declared.lanes.LaneSet.{LaneSet}
 use Rattle.nor_poll.specs.declared.lanes.Halt.{Halt}
@@ -18,20 +19,14 @@ use Rattle.nor_poll.specs.declared.lanes.Halt.TheVariants.{Off, Stuck}
 use Rattle.nor_poll.specs.declared.watch.Seen.{Seen}
 use Rattle.nor_poll.specs.declared.watch.Seen.TheVariants.{Working, Ready, Suspended, Broken}
 
--- what a command is taken in: set 0002 shows the array, and no fault stands
-abbrev pub TakesCommands : Set → ChipState → Type 0
-TakesCommands Intel s = Unit {0}
-TakesCommands Amd s = (s.mode ≡ Array) × (s.fault ≡ NoFault)
-
--- A chip of the set that would program unit u: at rest, the unit's block not locked, and no held erase in the way.
+-- A chip of the set that would program unit u: the unit's block not locked, and no held erase in the way.
 pub record TakesProgram (kind : Set) (u : ℕ) (s : ChipState) : Type 0 where
-  pub rest : AtRest kind s
   pub takes : TakesCommands kind s
   pub blocks : has_blocks s.part.blocks ≡ true
   pub unlocked : is_locked s (block_of s u) ≡ false
   pub free : held_off s (block_of s u) ≡ false
   -- so it is where the blocks follow each other; set 0002 shows it in what it answers
-  pub outside : kind ≡ Amd → in_held s.held s.part (place s.part u) ≡ false
+  pub outside : kind ≡ Amd → holds_at s.held s.part.blocks (place s.part u) ≡ false
 
 -- what the set shows after a program
 abbrev pub work_mode : Set → Mode
@@ -51,8 +46,8 @@ BeginsWord kind u v s t = TakesProgram kind u s → t ≡ programming kind (plac
 pub record WordDone (kind : Set) (u v : ℕ) (s t : ChipState) : Type 0 where
   pub cells : StoresUnit u v s t.cells
   pub holds : unit_breaks u v s ≡ false → OnlyClears s.part u v s.cells → HoldsUnit s.part u v t.cells
-  pub rest : t ≡ record (settled kind s) { cells = t.cells; t6 = t.t6; t2 = t.t2 }
-  pub still : kind ≡ Intel → (t.t6 ≡ s.t6) × (t.t2 ≡ s.t2)
+  pub rest : t ≡ record (settled kind s) { cells = t.cells; toggle_6 = t.toggle_6; toggle_2 = t.toggle_2 }
+  pub still : kind ≡ Intel → (t.toggle_6 ≡ s.toggle_6) × (t.toggle_2 ≡ s.toggle_2)
 
 abbrev pub ProgramsWord : Set → ℕ → ℕ → ChipState → ChipState → Type 0
 ProgramsWord kind u v s t = TakesProgram kind u s → WordDone kind u v s t

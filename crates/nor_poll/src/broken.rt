@@ -1,6 +1,6 @@
 ghost use Rattle.std.specs.Prelude.{◌≡◌, ◌<◌, ◌≤◌, ℕ, false};
 ghost use Rattle.nor_cell.specs.Bits.{has_bit};
-ghost use Rattle.nor_cell.specs.Intel.{bit_if};
+ghost use Rattle.nor_cell.specs.Shown.{bit_if};
 ghost use Rattle.nor_poll.specs.Told.{seen_at};
 ghost use Rattle.nor_poll.specs.Word.{is_broken};
 

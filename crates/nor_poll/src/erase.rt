@@ -3,10 +3,12 @@ ghost use Rattle.std.specs.Prelude.{◌≡◌, ◌<◌, ◌+◌, ℕ, IsTrue, If
 ghost use Rattle.nor_cell.specs.Wiring.{is_wiring};
 ghost use Rattle.nor_bus.specs.Driven.{Lost, EachLane, Reaches, Asks};
 ghost use Rattle.nor_poll.specs.Codes.{cycle_count};
+ghost use Rattle.nor_poll.specs.Losing.{LosesNone};
 ghost use Rattle.nor_poll.specs.Told.{seen_at};
-ghost use Rattle.nor_poll.specs.UnderErase.{state_at};
-ghost use Rattle.nor_poll.specs.Erase.{BeginsErase, LosesBegin, LooksAll, LosesLook, next_state as state_after, erase_polling as polling_in, look_reads};
-ghost use Rattle.nor_poll.specs.declared.codes.Command.TheVariants.{EraseBlock, ShowStatus};
+ghost use Rattle.nor_poll.specs.UnderErase.{EachUnder, state_at};
+ghost use Rattle.nor_poll.specs.Erase.{TakesErase, TakesEraseAll, TakesLook, BeginsErase, BeginsEraseAll, ChangesWithinErase, LooksAll, next_state as state_after, erase_polling as polling_in, look_reads};
+ghost use Rattle.nor_poll.specs.declared.codes.Command.TheVariants.{EraseBlock, EraseAll, ShowStatus};
+ghost use Rattle.nor_cell.specs.declared.device.Set.TheVariants.{Amd};
 
 use crate::{
     Broke, Command, LaneState, Lanes, Polling, Seen, Watch, cycles_of, poll, write_cycles,
@@ -29,10 +31,26 @@ pub fn erase_start<W: BusWord, B: Bus<W>>(
     ensures begins { OnOk result (Reaches W.WIDTH g at (B.state bus.old)
         → EachLane (BeginsErase set at) (B.state bus.old) (B.state bus.new)) }
     ensures loses { OnErr result (Reaches W.WIDTH g at (B.state bus.old)
-        → EachLane (LosesBegin set at) (B.state bus.old) (B.state bus.new)) }
+        → EachLane (LosesNone (TakesErase set at)) (B.state bus.old) (B.state bus.new)) }
     ensures cycles { Asks (cycle_count set EraseBlock) result (B.state bus.old) (B.state bus.new) }
 {
     write_cycles::<W, B>(bus, g, at, cycles_of(set, Command::EraseBlock))?;
+    Ok(())
+}
+
+/// Begins to erase all blocks of every lane at once, which set 0002 alone can.
+///
+/// What it does to a lane holds where `g` is the bus's own wiring, the bus has address 0, and the lane's
+/// chip would erase all: `TakesEraseAll` in `specs/Erase.antt`. Such a chip erases them, with no error set.
+/// `Off` comes only where a cycle failed. The last cycle begins the erase, so then nothing is lost.
+pub fn erase_all_start<W: BusWord, B: Bus<W>>(bus: &mut B, g: Geometry) -> Result<(), Off>
+    ensures begins { OnOk result (Reaches W.WIDTH g 0 (B.state bus.old)
+        → EachLane BeginsEraseAll (B.state bus.old) (B.state bus.new)) }
+    ensures loses { OnErr result (Reaches W.WIDTH g 0 (B.state bus.old)
+        → EachLane (LosesNone TakesEraseAll) (B.state bus.old) (B.state bus.new)) }
+    ensures cycles { Asks (cycle_count Amd EraseAll) result (B.state bus.old) (B.state bus.new) }
+{
+    write_cycles::<W, B>(bus, g, 0, cycles_of(Set::Amd, Command::EraseAll))?;
     Ok(())
 }
 
@@ -99,7 +117,7 @@ pub fn erase_look<W: BusWord, B: Bus<W>>(
     requires wiring { IsTrue (is_wiring W.WIDTH g.lanes g.device) }
     ensures looks { IfOk result (LooksAll set W.WIDTH g at lanes
         (B.state bus.old) (B.state bus.new)) }
-    ensures loses { OnErr result (LosesLook set W.WIDTH g at lanes
+    ensures loses { OnErr result (EachUnder (TakesLook set) ChangesWithinErase W.WIDTH g at lanes
         (B.state bus.old) (B.state bus.new)) }
     ensures lost { OnErr result (Lost (cycle_count set ShowStatus + look_reads set)
         (B.state bus.old) (B.state bus.new)) }

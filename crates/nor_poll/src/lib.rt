@@ -42,7 +42,7 @@ mod word;
 pub use broken::broken_lanes;
 pub use codes::{Command, Cycle, To, cycles_of, write_cycles};
 pub use data::data_poll;
-pub use erase::{erase_look, erase_start};
+pub use erase::{erase_all_start, erase_look, erase_start};
 pub use lanes::{Halt, LaneSet, LaneState, Lanes};
 pub use polling::{Polling, poll};
 pub use rest::settle;

@@ -1,9 +1,11 @@
 //! What ends a command of either set.
 ghost use Rattle.std.specs.Prelude.{◌≡◌, ◌+◌, ℕ, min, OnOk, OnErr};
+ghost use Rattle.nor_cell.specs.Between.{AtRest};
 ghost use Rattle.nor_bus.specs.Driven.{Went, Lost, EachLane, Reaches, Asks};
 ghost use Rattle.nor_poll.specs.Codes.{cycle_count};
-ghost use Rattle.nor_poll.specs.declared.codes.Command.TheVariants.{ClearErrors, ShowArray};
-ghost use Rattle.nor_poll.specs.Rest.{Settles, SettlesUnbroken, LosesNone};
+ghost use Rattle.nor_poll.specs.declared.codes.Command.TheVariants.{ClearErrors, ShowArray, Reset};
+ghost use Rattle.nor_poll.specs.Rest.{Resets, Settles, SettlesUnbroken};
+ghost use Rattle.nor_poll.specs.Losing.{LosesNone};
 
 use crate::{Command, LaneSet, Lanes, cycles_of, write_cycles};
 use nor_bus::{Bus, Off};
@@ -21,7 +23,7 @@ pub fn end_program<W: BusWord, B: Bus<W>>(
     ensures lanes { OnOk result (Reaches W.WIDTH g at (B.state bus.old)
         → EachLane (SettlesUnbroken set broken.bits) (B.state bus.old) (B.state bus.new)) }
     ensures loses { OnErr result (Reaches W.WIDTH g at (B.state bus.old)
-        → EachLane (LosesNone set) (B.state bus.old) (B.state bus.new)) }
+        → EachLane (LosesNone (AtRest set)) (B.state bus.old) (B.state bus.new)) }
     ensures went { OnOk result (Went (cycle_count set ShowArray + min broken.bits 1) (cycle_count set ShowArray + min broken.bits 1)
         (B.state bus.old) (B.state bus.new)) }
     ensures lost { OnErr result (Lost (cycle_count set ClearErrors)
@@ -34,6 +36,24 @@ pub fn end_program<W: BusWord, B: Bus<W>>(
     settle_at::<W, B>(set, bus, g, at)
 }
 
+// Lets every lane show its array, but for a held block. The errors of set 0001 stay: each command of the
+// set clears them first.
+pub fn reset_at<W: BusWord, B: Bus<W>>(
+    set: Set,
+    bus: &mut B,
+    g: Geometry,
+    at: u32,
+) -> Result<(), Off>
+    ensures lanes { OnOk result (Reaches W.WIDTH g at (B.state bus.old)
+        → EachLane (Resets set) (B.state bus.old) (B.state bus.new)) }
+    ensures loses { OnErr result (Reaches W.WIDTH g at (B.state bus.old)
+        → EachLane (LosesNone (AtRest set)) (B.state bus.old) (B.state bus.new)) }
+    ensures cycles { Asks (cycle_count set Reset) result (B.state bus.old) (B.state bus.new) }
+{
+    write_cycles::<W, B>(bus, g, at, cycles_of(set, Command::Reset))?;
+    Ok(())
+}
+
 // Clears errors.
 pub fn settle_at<W: BusWord, B: Bus<W>>(
     set: Set,
@@ -44,7 +64,7 @@ pub fn settle_at<W: BusWord, B: Bus<W>>(
     ensures lanes { OnOk result (Reaches W.WIDTH g at (B.state bus.old)
         → EachLane (Settles set) (B.state bus.old) (B.state bus.new)) }
     ensures loses { OnErr result (Reaches W.WIDTH g at (B.state bus.old)
-        → EachLane (LosesNone set) (B.state bus.old) (B.state bus.new)) }
+        → EachLane (LosesNone (AtRest set)) (B.state bus.old) (B.state bus.new)) }
     ensures cycles { Asks (cycle_count set ClearErrors) result (B.state bus.old) (B.state bus.new) }
 {
     write_cycles::<W, B>(bus, g, at, cycles_of(set, Command::ClearErrors))?;
@@ -66,7 +86,7 @@ pub fn settle<W: BusWord, B: Bus<W>>(
     ensures settles { OnOk result (Reaches W.WIDTH g 0 (B.state bus.old)
         → EachLane (Settles set) (B.state bus.old) (B.state bus.new)) }
     ensures loses { OnErr result (Reaches W.WIDTH g 0 (B.state bus.old)
-        → EachLane (LosesNone set) (B.state bus.old) (B.state bus.new)) }
+        → EachLane (LosesNone (AtRest set)) (B.state bus.old) (B.state bus.new)) }
     ensures cycles { Asks (cycle_count set ClearErrors) result (B.state bus.old) (B.state bus.new) }
 {
     settle_at::<W, B>(set, bus, g, 0)

@@ -4,8 +4,9 @@ ghost use Rattle.nor_cell.specs.Bits.{unit_len};
 ghost use Rattle.nor_cell.specs.Wiring.{is_wiring};
 ghost use Rattle.nor_word.specs.Word.{lane_of};
 ghost use Rattle.nor_bus.specs.Driven.{spread, Asks};
-ghost use Rattle.nor_poll.specs.UnderErase.{state_at};
-ghost use Rattle.nor_poll.specs.Resume.{resume_code as code_for, resumed_state as state_after, ResumesAll, LosesResume};
+ghost use Rattle.nor_poll.specs.Erase.{ChangesWithinErase};
+ghost use Rattle.nor_poll.specs.UnderErase.{EachUnder, state_at};
+ghost use Rattle.nor_poll.specs.Resume.{resume_code as code_for, resumed_state as state_after, TakesResume, ResumesAll};
 
 use crate::erase::state_of;
 use crate::{LaneState, Lanes};
@@ -73,7 +74,7 @@ pub fn resume<W: BusWord, B: Bus<W>>(
     requires wiring { IsTrue (is_wiring W.WIDTH g.lanes g.device) }
     ensures resumes { IfOk result (ResumesAll set W.WIDTH g at lanes
         (B.state bus.old) (B.state bus.new)) }
-    ensures loses { OnErr result (LosesResume set W.WIDTH g at lanes
+    ensures loses { OnErr result (EachUnder (TakesResume set) ChangesWithinErase W.WIDTH g at lanes
         (B.state bus.old) (B.state bus.new)) }
     ensures cycles { Asks 1 result (B.state bus.old) (B.state bus.new) }
 {

@@ -2,33 +2,28 @@
 use Rattle.std.proofs.Common.{Result, Ok, Err, OnErr, ◌≡◌, ◌<◌, ◌%◌, ℕ, List, length, sym, ap, subst, ◌∙◌, arith}
 use Rattle.nor_cell.specs.Bits.{unit_len, AreBytes}
 use Rattle.nor_cell.specs.Chip.{ChipState}
-use Rattle.nor_cell.specs.Intel.{query_at}
+use Rattle.nor_cell.specs.Shown.{query_at}
 use Rattle.nor_cell.specs.Steps.{Reads, written}
 use Rattle.nor_cell.specs.declared.device.Device.{Device}
 use Rattle.nor_cell.specs.declared.device.Device.TheVariants.{X8, X16, X16Byte}
-use Rattle.nor_cell.proofs.Resting.{resets, enters_query, reads_query}
+use Rattle.nor_cell.proofs.Between.{resets, enters_query, reads_query}
 use Rattle.nor_word.specs.Word.{lane_of}
 use Rattle.nor_bus.specs.Bus.{BusState, IsWired, lane, lanes_of, wide}
 use Rattle.nor_bus.specs.Driven.{TakesCode, AllLanes, spread}
 use Rattle.nor_bus.specs.Words.{query_word}
-use Rattle.nor_bus.proofs.Driving.{fills_word}
+use Rattle.nor_bus.proofs.Driving.{fills_word, spread_low}
 use Rattle.nor_bus.proofs.Words.{word_is}
 use Rattle.nor_probe.specs.Asking.{Resets, Enters, ShowsQuery, Stays}
 
-spread_by : (device : Device) (code : ℕ) → code < 256 → spread (unit_len device) code % 256 ≡ code
-spread_by X8 code small = omega arith
-spread_by X16 code small = omega arith
-spread_by X16Byte code small = omega arith
-
 -- the low byte of what a lane takes is the code
 low_code : (s : ChipState) (code : ℕ) → code < 256 → spread (wide s) code % 256 ≡ code
-low_code s code small = spread_by s.part.device code small
+low_code s code small = spread_low s.part.device code small
 
 -- two reset codes
 pub both_resets : (s m t : ChipState) → TakesCode 0 0xF0 s m → TakesCode 0 0xFF m t → Resets s t
 both_resets s m t first second = λ is.
     second ∙ (ap (λ (x : ChipState). written x 0 (spread (wide m) 0xFF)) first
-    ∙ resets s 0 (spread (wide s) 0xF0) (spread (wide m) 0xFF) is (low_code s 0xF0 (omega arith)) (low_code m 0xFF (omega arith)))
+    ∙ resets s.part.set s 0 (spread (wide s) 0xF0) (spread (wide m) 0xFF) is.rest (low_code s 0xF0 (omega arith)) (low_code m 0xFF (omega arith)))
 
 -- the query code at both addresses
 pub both_enter : (s m t : ChipState) → TakesCode 0x55 0x98 s m → TakesCode 0xAA 0x98 m t → Enters s t

@@ -2,6 +2,7 @@
 use Rattle.std.proofs.Common.{◌≡◌, ◌≢◌, ◌<◌, ◌+◌, ◌*◌, ◌/◌, ◌%◌, ◌∙◌, ◌⊎◌, inl, inr, ◌==◌, ◌&&◌, if◌then◌else◌, ℕ, zero, suc, List, [], ◌∷◌, ◌++◌, length, slice_index, refl, ap, arith, Bool, true, false, eq-eqb}
 use Rattle.std.proofs.lemmas.Bool.{cases_eq}
 use Rattle.std.proofs.Math.Nat.{mod-eq_of_lt}
+use Rattle.nor_cell.proofs.Logic.{both_pass, same_number}
 use Rattle.nor_cell.specs.Bits.{unit_len, unit_bytes}
 use Rattle.nor_cell.specs.Chip.{ChipState}
 use Rattle.nor_cell.specs.declared.device.Device.{Device}
@@ -10,6 +11,7 @@ use Rattle.nor_word.specs.Word.{lane_of}
 use Rattle.nor_bus.specs.Bus.{chip_at}
 use Rattle.nor_bus.specs.Words.{side_by_side}
 use Rattle.nor_probe.specs.Found.{lanes_read}
+use Rattle.nor_bus.proofs.Words.{later_lane}
 
 -- ---- chips of the lanes' own device
 
@@ -28,13 +30,6 @@ said_one device f (s ∷ chips) (suc c) one devices small below =
 two : (v : ℕ) → v < 256 → v % 256 + 256 * (v / 256 % 256) ≡ v
 two v small = omega arith
 
-pair_later : (a b : ℕ) (word : List ℕ) (c : ℕ) → slice_index (a ∷ b ∷ word) (2 * suc c) + 256 * slice_index (a ∷ b ∷ word) (2 * suc c + 1) ≡ slice_index word (2 * c) + 256 * slice_index word (2 * c + 1)
-pair_later a b word c =
-    let low : 2 * suc c ≡ suc (suc (2 * c)) = omega arith in
-    let high : 2 * suc c + 1 ≡ suc (suc (2 * c + 1)) = omega arith in
-    ap (λ (n : ℕ). slice_index (a ∷ b ∷ word) n + 256 * slice_index (a ∷ b ∷ word) (2 * suc c + 1)) low
-    ∙ ap (λ (n : ℕ). slice_index (a ∷ b ∷ word) (suc (suc (2 * c))) + 256 * slice_index (a ∷ b ∷ word) n) high
-
 said_two : (f : ChipState → ℕ) (chips : List ChipState) (c : ℕ)
     → ((c : ℕ) → c < length chips → (chip_at chips c).part.device ≡ X16) → ((c : ℕ) → c < length chips → f (chip_at chips c) < 256) → c < length chips
     → slice_index (side_by_side f chips) (2 * c) + 256 * slice_index (side_by_side f chips) (2 * c + 1) ≡ f (chip_at chips c)
@@ -45,7 +40,7 @@ said_two f (s ∷ chips) zero devices small below =
 said_two f (s ∷ chips) (suc c) devices small below =
     let here : unit_bytes s.part.device (f s) ≡ f s % 256 ∷ f s / 256 % 256 ∷ [] = ap (λ (d : Device). unit_bytes d (f s)) (devices 0 (omega arith)) in
     ap (λ (l : List ℕ). slice_index (l ++ side_by_side f chips) (2 * suc c) + 256 * slice_index (l ++ side_by_side f chips) (2 * suc c + 1)) here
-    ∙ (pair_later (f s % 256) (f s / 256 % 256) (side_by_side f chips) c
+    ∙ (later_lane (f s % 256) (f s / 256 % 256) (side_by_side f chips) c
     ∙ said_two f chips c (λ k less. devices (suc k) (omega arith)) (λ k less. small (suc k) (omega arith)) (omega arith))
 
 -- Lane c reads what chip c says.
@@ -97,22 +92,15 @@ all_read d (suc n) v word each =
     let front : lanes_read d n word v ≡ true = all_read d n v word (λ c below. each c (omega arith)) in
     ap (λ (b : Bool). b && (lane_of d word n == v)) front ∙ here
 
-both : (a b : Bool) → (a && b) ≡ true → (a ≡ true) × (b ≡ true)
-both true b is = (refl, is)
-both false b is = absurd cc
-
-equal : (a b : ℕ) → (a == b) ≡ true → a ≡ b
-equal a b is = grind (arith, is)
-
 -- and each does so
 pub each_reads : (d n v : ℕ) (word : List ℕ) → lanes_read d n word v ≡ true → (c : ℕ) → c < n → lane_of d word c ≡ v
 each_reads d zero v word is c below = absurd (omega arith)
 each_reads d (suc n) v word is c below =
-    let parts = both (lanes_read d n word v) (lane_of d word n == v) is in
+    let parts = both_pass (lanes_read d n word v) (lane_of d word n == v) is in
     this_or_earlier (lane_of d word c) (lane_of d word n) parts.1 (ap (λ (k : ℕ). lane_of d word k)) (cases_eq c n) (λ less. each_reads d n v word parts.0 c (omega arith))
   where
     this_or_earlier : (x y : ℕ) → (y == v) ≡ true → (c ≡ n → x ≡ y) → (c ≡ n) ⊎ (c ≢ n) → (c ≢ n → x ≡ v) → x ≡ v
-    this_or_earlier x y here same (inl is) earlier = same is ∙ equal y v here
+    this_or_earlier x y here same (inl is) earlier = same is ∙ same_number y v here
     this_or_earlier x y here same (inr less) earlier = earlier less
 
 not_true : (b : Bool) → (b ≡ true → ⊥) → b ≡ false

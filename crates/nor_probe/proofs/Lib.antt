@@ -2,6 +2,7 @@ pub mod Asked
 pub mod Judged
 pub mod Lanes
 pub mod Looking
+pub mod OneTable
 pub mod OwnTables
 pub mod OwnWiring
 pub mod Searching

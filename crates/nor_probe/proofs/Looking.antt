@@ -2,7 +2,8 @@
 use Rattle.std.proofs.Common.{◌≡◌, ◌<◌, ◌∙◌, ℕ, List, map, true, Option, Some, None, OnSome, sym, ap, subst}
 use Rattle.std.specs.List.{find, range_with_len}
 use Rattle.std.specs.Option.{option_and_then, option_or, option_map, is_some}
-use Rattle.nor_cell.specs.Resting.{IsResting}
+use Rattle.nor_cell.proofs.Logic.{find_passes}
+use Rattle.nor_cell.specs.Between.{IsIdle}
 use Rattle.nor_cell.specs.declared.geometry.Geometry.{Geometry}
 use Rattle.nor_bus.specs.Bus.{BusState, lane}
 use Rattle.nor_bus.specs.Cycles.{KeepsLanes}
@@ -15,7 +16,6 @@ use Rattle.nor_probe.specs.Probed.{refusal, refusal_in, IsCommonTable}
 use Rattle.nor_probe.specs.Tables.{low_byte, odd_lane, difference_in, table_read, first_difference}
 use Rattle.nor_probe.specs.declared.error.ProbeError.{ProbeError}
 use Rattle.nor_probe.specs.declared.error.ProbeError.TheVariants.{Query}
-use Rattle.nor_probe.proofs.Searching.{found_passes}
 use Rattle.nor_probe.proofs.Shown.{asked_shows, asked_stays, asked_rests, shows_kept, word_kept}
 
 -- ---- cycles
@@ -30,24 +30,24 @@ on_some (Some y) x P is fact = fact
 pub record Answers (width : ℕ) (g : Geometry) (old now : BusState) : Type 0 where
   pub counted : Counted 0 21 old now
   pub asks : EachLane Asks old now
-  pub wiring : AllLanes IsResting old → found_geometry width old.lanes ≡ Some g
+  pub wiring : AllLanes IsIdle old → found_geometry width old.lanes ≡ Some g
 
 pub answers_of : (width : ℕ) (g : Geometry) (old now : BusState) (found : Option Geometry) → Counted 0 21 old now → OnSome found (EachLane Asks old now)
-    → (AllLanes IsResting old → found ≡ found_geometry width old.lanes) → found ≡ Some g → Answers width g old now
+    → (AllLanes IsIdle old → found ≡ found_geometry width old.lanes) → found ≡ Some g → Answers width g old now
 answers_of width g old now found counted asked is some = record {
   counted = counted;
   asks = on_some found g (EachLane Asks old now) some asked;
   wiring = λ rests. sym (is rests) ∙ some;
 }
 
-all_show : (width : ℕ) (g : Geometry) (old now : BusState) → Answers width g old now → AllLanes IsResting old → AllLanes ShowsQuery now
+all_show : (width : ℕ) (g : Geometry) (old now : BusState) → Answers width g old now → AllLanes IsIdle old → AllLanes ShowsQuery now
 all_show width g old now answers rests = λ c below.
     let there = subst (λ (n : ℕ). c < n) answers.counted.went.kept.count below in
     asked_shows (lane old c) (lane now c) (answers.asks c there) (rests c there)
 
-qry_shown : (width : ℕ) (g : Geometry) (old now : BusState) → Answers width g old now → AllLanes IsResting old → shows_qry g now.lanes ≡ true
+qry_shown : (width : ℕ) (g : Geometry) (old now : BusState) → Answers width g old now → AllLanes IsIdle old → shows_qry g now.lanes ≡ true
 qry_shown width g old now answers rests =
-    shows_kept g old now answers.counted.went.kept ∙ found_passes (λ (x : Geometry). shows_qry x old.lanes) (candidates_of width) g (answers.wiring rests)
+    shows_kept g old now answers.counted.went.kept ∙ find_passes (λ (x : Geometry). shows_qry x old.lanes) (candidates_of width) g (answers.wiring rests)
 
 table_kept : (g : Geometry) (a b : BusState) (c : ℕ) → KeepsLanes a b → table_read g b.lanes c ≡ table_read g a.lanes c
 unfolding table_read
@@ -69,7 +69,7 @@ read_rests width g old now new answers stays = λ c below.
 pub common_table : (width : ℕ) (g : Geometry) (old now : BusState) (table : List ℕ) → Answers width g old now
     → (AllLanes ShowsQuery now → shows_qry g now.lanes ≡ true → None ≡ first_difference g now.lanes)
     → (AllLanes ShowsQuery now → shows_qry g now.lanes ≡ true → table ≡ table_read g now.lanes 0)
-    → AllLanes IsResting old → IsCommonTable width old.lanes g table
+    → AllLanes IsIdle old → IsCommonTable width old.lanes g table
 common_table width g old now table answers same is rests =
     let all = all_show width g old now answers rests in
     let shows = qry_shown width g old now answers rests in
@@ -82,7 +82,7 @@ common_table width g old now table answers same is rests =
 
 pub lanes_refused : (width : ℕ) (g : Geometry) (old now : BusState) (e : ProbeError) → Answers width g old now
     → (AllLanes ShowsQuery now → shows_qry g now.lanes ≡ true → Some e ≡ first_difference g now.lanes)
-    → AllLanes IsResting old → refusal width old.lanes ≡ Some e
+    → AllLanes IsIdle old → refusal width old.lanes ≡ Some e
 lanes_refused width g old now e answers differs rests =
     let all = all_show width g old now answers rests in
     let shows = qry_shown width g old now answers rests in

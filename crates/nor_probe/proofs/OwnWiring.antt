@@ -3,7 +3,7 @@ use Rattle.std.proofs.Common.{◌≡◌, ◌≢◌, ◌<◌, ◌≤◌, ◌*◌,
 use Rattle.std.specs.List.{find}
 use Rattle.nor_cell.specs.Bits.{unit_len, AreBytes}
 use Rattle.nor_cell.specs.Chip.{ChipState, Part}
-use Rattle.nor_cell.specs.Intel.{query_at, register}
+use Rattle.nor_cell.specs.Shown.{query_at, register}
 use Rattle.nor_cell.specs.Wiring.{is_wiring}
 use Rattle.nor_cell.specs.declared.device.Device.{Device}
 use Rattle.nor_cell.specs.declared.device.Device.TheVariants.{X8, X16, X16Byte}

@@ -1,5 +1,5 @@
 -- The first of several that passes a test.
-use Rattle.std.proofs.Common.{◌≡◌, ◌≢◌, ◌<◌, ◌≤◌, ◌+◌, ◌⊎◌, inl, inr, ◌∙◌, ℕ, zero, suc, List, [], ◌∷◌, Bool, true, false, cond, Option, Some, None, refl, sym, ap, arith}
+use Rattle.std.proofs.Common.{◌≡◌, ◌≢◌, ◌<◌, ◌≤◌, ◌+◌, ◌⊎◌, inl, inr, ◌∙◌, ℕ, zero, suc, Bool, true, false, cond, Option, Some, None, refl, sym, ap, arith}
 use Rattle.std.specs.List.{find, range_with_len}
 use Rattle.std.proofs.lemmas.Bool.{cases_eq}
 
@@ -23,15 +23,6 @@ find_first p from (suc n) j least most fails passes =
     here_or_later (inl here) rest = ap (λ (b : Bool). cond b (Some from) (find p (range_with_len (from + 1) n))) (ap p here ∙ passes) ∙ ap (λ (k : ℕ). Some k) here
     here_or_later (inr later) rest =
         ap (λ (b : Bool). cond b (Some from) (find p (range_with_len (from + 1) n))) (fails from (omega arith) (omega arith)) ∙ rest later
-
--- what is found passes
-pub found_passes : {X : Type 0} (p : X → Bool) (xs : List X) (x : X) → find p xs ≡ Some x → p x ≡ true
-found_passes p [] x is = cc
-found_passes p (y ∷ xs) x is = by_test (p y) refl is (found_passes p xs x)
-  where
-    by_test : (b : Bool) → p y ≡ b → cond b (Some y) (find p xs) ≡ Some x → (find p xs ≡ Some x → p x ≡ true) → p x ≡ true
-    by_test true passes found later = let same : y ≡ x = cc in ap p (sym same) ∙ passes
-    by_test false fails found later = later found
 
 fails_then : (b : Bool) (x : ℕ) (o : Option ℕ) → cond b (Some x) o ≡ None → (b ≡ false) × (o ≡ None)
 fails_then true x o none = absurd cc

@@ -5,9 +5,9 @@ use Rattle.std.proofs.lemmas.List.Elements.{All-get_or}
 use Rattle.std.proofs.Math.Seq.{drop-cons}
 use Rattle.nor_cell.specs.Bits.{unit_bytes, unit_len}
 use Rattle.nor_cell.specs.Chip.{ChipState, Part, Query}
-use Rattle.nor_cell.specs.Intel.{query_at}
-use Rattle.nor_cell.specs.Resting.{IsResting, reset}
-use Rattle.nor_cell.proofs.Resting.{query_resting}
+use Rattle.nor_cell.specs.Shown.{query_at}
+use Rattle.nor_cell.specs.Between.{IsIdle, reset}
+use Rattle.nor_cell.proofs.Between.{query_idle}
 use Rattle.nor_cell.specs.declared.geometry.Geometry.{Geometry}
 use Rattle.nor_bus.specs.Bus.{BusState, lane, chip_at}
 use Rattle.nor_bus.specs.Cycles.{KeepsLanes}
@@ -51,14 +51,14 @@ all_letters g old a b q r y k l first second one two three shows =
 
 -- ---- chips that were asked
 
-pub asked_shows : (s m : ChipState) → Asks s m → IsResting s → ShowsQuery m
-asked_shows s m asks is = subst ShowsQuery (sym (asks is)) (record { mode = refl; job = is.job; fault = refl })
+pub asked_shows : (s m : ChipState) → Asks s m → IsIdle s → ShowsQuery m
+asked_shows s m asks is = subst ShowsQuery (sym (asks is)) (record { mode = refl; job = is.rest.job; fault = refl })
 
 pub asked_stays : (s m t : ChipState) → Asks s m → Stays m t → Asks s t
 asked_stays s m t asks stays = λ is. stays (asked_shows s m asks is) ∙ asks is
 
 pub asked_rests : (s t : ChipState) → Asks s t → Rests s t
-asked_rests s t asks = λ is. (subst IsResting (sym (asks is)) (query_resting s is), ap reset (asks is))
+asked_rests s t asks = λ is. (subst IsIdle (sym (asks is)) (query_idle s is), ap reset (asks is))
 
 pub rests_asked : (s m t : ChipState) → Rests s m → Asks m t → Asks s t
 rests_asked s m t first asks = λ is. let x = first is in asks x.0 ∙ ap (λ (r : ChipState). record r { mode = Query }) x.1
@@ -93,12 +93,12 @@ shows_kept g a b kept =
 pub record Tried (width i : ℕ) (old now : BusState) : Type 0 where
   pub went : Went (7 * i) (7 * i) old now
   pub rests : EachLane Rests old now
-  pub left : AllLanes IsResting old → found_geometry width old.lanes ≡ find (λ (g : Geometry). shows_qry g old.lanes) (drop i (candidates_of width))
+  pub left : AllLanes IsIdle old → found_geometry width old.lanes ≡ find (λ (g : Geometry). shows_qry g old.lanes) (drop i (candidates_of width))
 
 pub tried_none : (width : ℕ) (bus : BusState) → Tried width 0 bus bus
 tried_none width bus = record { went = went_none bus; rests = λ c below. rests_none (lane bus c); left = λ is. refl }
 
-resting_now : (old now : BusState) → KeepsLanes old now → EachLane Rests old now → AllLanes IsResting old → AllLanes IsResting now
+resting_now : (old now : BusState) → KeepsLanes old now → EachLane Rests old now → AllLanes IsIdle old → AllLanes IsIdle now
 resting_now old now kept rests is = λ c below. let there = subst (λ (n : ℕ). c < n) kept.count below in (rests c there (is c there)).0
 
 next_rests : (old now new : BusState) → KeepsLanes old now → EachLane Rests old now → EachLane Rests now new → EachLane Rests old new
@@ -108,13 +108,13 @@ next_asks : (old now new : BusState) → KeepsLanes old now → EachLane Rests o
 next_asks old now new kept first second = λ c below. rests_asked (lane old c) (lane now c) (lane new c) (first c below) (second c (subst (λ (n : ℕ). c < n) (sym kept.count) below))
 
 -- what this wiring shows
-this_shows : (g : Geometry) (old now : BusState) (shows : Bool) → KeepsLanes old now → EachLane Rests old now → (AllLanes IsResting now → shows ≡ shows_qry g now.lanes)
-    → AllLanes IsResting old → shows ≡ shows_qry g old.lanes
+this_shows : (g : Geometry) (old now : BusState) (shows : Bool) → KeepsLanes old now → EachLane Rests old now → (AllLanes IsIdle now → shows ≡ shows_qry g now.lanes)
+    → AllLanes IsIdle old → shows ≡ shows_qry g old.lanes
 this_shows g old now shows kept rests answer is = answer (resting_now old now kept rests is) ∙ shows_kept g old now kept
 
 -- one more was tried, and didn't show
 pub tried_more : (width i : ℕ) (g : Geometry) (old now new : BusState) (shows : Bool) → Tried width i old now
-    → Went 7 7 now new → EachLane Asks now new → (AllLanes IsResting now → shows ≡ shows_qry g now.lanes)
+    → Went 7 7 now new → EachLane Asks now new → (AllLanes IsIdle now → shows ≡ shows_qry g now.lanes)
     → drop i (candidates_of width) ≡ g ∷ drop (i + 1) (candidates_of width) → shows ≡ false → Tried width (i + 1) old new
 tried_more width i g old now new shows so went asks answer is hidden = record {
   went = went_then (7 * i) (7 * i) 7 7 (7 * (i + 1)) (7 * (i + 1)) old now new (omega arith) (omega arith) so.went went;
@@ -127,8 +127,8 @@ tried_more width i g old now new shows so went asks answer is hidden = record {
 
 -- one more was tried, and shows
 pub tried_found : (width i : ℕ) (g : Geometry) (old now : BusState) (shows : Bool) → Tried width i old now
-    → (AllLanes IsResting now → shows ≡ shows_qry g now.lanes)
-    → drop i (candidates_of width) ≡ g ∷ drop (i + 1) (candidates_of width) → shows ≡ true → AllLanes IsResting old → Some g ≡ found_geometry width old.lanes
+    → (AllLanes IsIdle now → shows ≡ shows_qry g now.lanes)
+    → drop i (candidates_of width) ≡ g ∷ drop (i + 1) (candidates_of width) → shows ≡ true → AllLanes IsIdle old → Some g ≡ found_geometry width old.lanes
 tried_found width i g old now shows so answer is seen all =
     let p = λ (x : Geometry). shows_qry x old.lanes in
     let here : p g ≡ true = sym (this_shows g old now shows so.went.kept so.rests answer all) ∙ seen in

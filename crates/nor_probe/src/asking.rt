@@ -1,5 +1,5 @@
 ghost use Rattle.std.specs.Prelude.{◌≡◌, ◌<◌, ◌≤◌, IfOk, OnOk, OnErr};
-ghost use Rattle.nor_cell.specs.Resting.{IsResting};
+ghost use Rattle.nor_cell.specs.Between.{IsIdle};
 ghost use Rattle.nor_bus.specs.Bus.{units_of, IsWired};
 ghost use Rattle.nor_bus.specs.Driven.{Went, Lost, EachLane, AllLanes};
 ghost use Rattle.nor_bus.specs.Words.{query_word};

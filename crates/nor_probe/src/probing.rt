@@ -1,7 +1,7 @@
 ghost use Rattle.std.specs.Prelude.{◌≡◌, ◌≢◌, ◌<◌, ◌≤◌, ℕ, List, IfOk, IfErr, OnOk, OnErr, IsOk, IsTrue, Some, None, Err};
 ghost use Rattle.std.specs.Option.{option_map};
 ghost use Rattle.std.specs.Result.{result_err};
-ghost use Rattle.nor_cell.specs.Resting.{IsResting};
+ghost use Rattle.nor_cell.specs.Between.{IsIdle};
 ghost use Rattle.nor_cell.specs.Wiring.{is_wiring};
 ghost use Rattle.nor_cell.specs.declared.geometry.Geometry.{Geometry};
 ghost use Rattle.nor_bus.specs.Bus.{units_of};
@@ -40,9 +40,9 @@ fn look<W: BusWord, B: Bus<W>>(
 ) -> Result<Result<(Geometry, [u8; 512]), ProbeError>, Off>
     ensures counted { OnOk result (Counted 0 522 (B.state bus.old) (B.state bus.new)) }
     ensures lanes { OnOk result (EachLane Rests (B.state bus.old) (B.state bus.new)) }
-    ensures refused { IfOk result (λ seen. AllLanes IsResting (B.state bus.old)
+    ensures refused { IfOk result (λ seen. AllLanes IsIdle (B.state bus.old)
         → IfErr seen (λ e. refusal W.WIDTH (B.state bus.old).lanes ≡ Some e)) }
-    ensures table { IfOk result (λ seen. AllLanes IsResting (B.state bus.old)
+    ensures table { IfOk result (λ seen. AllLanes IsIdle (B.state bus.old)
         → IfOk seen (λ s. IsCommonTable W.WIDTH (B.state bus.old).lanes s.0 s.1)) }
     ensures power { IfOk result (λ seen. IfErr seen (λ e. e ≢ LostPower)) }
     ensures wiring { IfOk result (λ seen.
@@ -89,9 +89,9 @@ fn found_of(geometry: Geometry, table: &[u8; 512]) -> Result<Found, ProbeError>
 /// Where the chips are what their tables say, the wiring is the bus's own, and the bank is found
 /// exactly where all of them show one table and [`decode`] accepts it.
 pub fn probe<W: BusWord, B: Bus<W>>(bus: &mut B) -> Result<Found, ProbeError>
-    ensures refused { result ≢ Err LostPower → AllLanes IsResting (B.state bus.old)
+    ensures refused { result ≢ Err LostPower → AllLanes IsIdle (B.state bus.old)
         → result_err result ≡ refusal W.WIDTH (B.state bus.old).lanes }
-    ensures found { IfOk result (λ found. AllLanes IsResting (B.state bus.old)
+    ensures found { IfOk result (λ found. AllLanes IsIdle (B.state bus.old)
         → IsFoundOn W.WIDTH (B.state bus.old).lanes found) }
     ensures wiring { IfOk result (λ found. IsTrue (is_wiring W.WIDTH found.geometry.lanes found.geometry.device)) }
 
@@ -99,9 +99,9 @@ pub fn probe<W: BusWord, B: Bus<W>>(bus: &mut B) -> Result<Found, ProbeError>
     ensures shown { (g : Geometry) → IsWellWired W.WIDTH g (B.state bus.old)
         → ShowsItself W.WIDTH g (B.state bus.old) }
     ensures own { IfOk result (λ found. (g : Geometry) → IsWellWired W.WIDTH g (B.state bus.old)
-        → AllLanes IsResting (B.state bus.old) → IsOwnFound g (B.state bus.old) found) }
+        → AllLanes IsIdle (B.state bus.old) → IsOwnFound g (B.state bus.old) found) }
     ensures accepted { (g : Geometry) (table : List ℕ) → IsWellWired W.WIDTH g (B.state bus.old)
-        → AllLanes IsResting (B.state bus.old) → AllShow table (B.state bus.old)
+        → AllLanes IsIdle (B.state bus.old) → AllShow table (B.state bus.old)
         → first_error table ≡ None → result ≢ Err LostPower → IsOk result }
 
     ensures counted { result ≢ Err LostPower → Counted 0 524 (B.state bus.old) (B.state bus.new) }

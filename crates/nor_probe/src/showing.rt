@@ -4,7 +4,7 @@ ghost use Rattle.nor_cell.specs.Wiring.{is_wiring};
 ghost use Rattle.nor_bus.specs.Bus.{units_of};
 ghost use Rattle.nor_bus.specs.Driven.{Went, Lost, EachLane, AllLanes};
 ghost use Rattle.nor_probe.specs.Asking.{ShowsQuery, Stays};
-ghost use Rattle.nor_probe.specs.Found.{lanes_read as lanes_read_lem, shows_at, shows_qry as shows_qry_lem, query_address as query_address_lem};
+ghost use Rattle.nor_probe.specs.Found.{lanes_read, shows_at, shows_qry, query_address};
 
 use crate::asking::read_query;
 use nor_bus::{Bus, Off, lane_bytes};
@@ -14,7 +14,7 @@ use nor_word::{BusWord, lane_get};
 /// Whether each of the first lanes of a word reads a letter.
 fn lanes_read<W: BusWord>(word: W, g: Geometry, letter: u8) -> bool
     requires { IsTrue (is_wiring W.WIDTH g.lanes g.device) }
-    ensures { result ≡ lanes_read_lem (unit_len g.device) g.lanes (W.bytes word) letter }
+    ensures { result ≡ lanes_read (unit_len g.device) g.lanes (W.bytes word) letter }
 {
     let bytes = lane_bytes(g.device);
     let mut all = true;
@@ -27,7 +27,7 @@ fn lanes_read<W: BusWord>(word: W, g: Geometry, letter: u8) -> bool
 /// The bus address of a word of the query table.
 pub fn query_address(device: Device, n: u16) -> u32
     requires { n < 512 }
-    ensures value { result ≡ query_address_lem device n }
+    ensures value { result ≡ query_address device n }
     ensures low { result < 1024 }
 {
     match device {
@@ -68,7 +68,7 @@ pub fn shows_qry<W: BusWord, B: Bus<W>>(bus: &mut B, g: Geometry) -> Result<bool
     ensures went { OnOk result (Went 3 3 (B.state bus.old) (B.state bus.new)) }
     ensures lanes { OnOk result (EachLane Stays (B.state bus.old) (B.state bus.new)) }
     ensures shows { IfOk result (λ shows. AllLanes ShowsQuery (B.state bus.old)
-        → shows ≡ shows_qry_lem g (B.state bus.old).lanes) }
+        → shows ≡ shows_qry g (B.state bus.old).lanes) }
     ensures lost { OnErr result (Lost 3 (B.state bus.old) (B.state bus.new)) }
     ensures units { units_of (B.state bus.new) ≡ units_of (B.state bus.old) }
 {

@@ -6,7 +6,8 @@ ghost use Rattle.nor_bus.specs.Bus.{units_of};
 ghost use Rattle.nor_bus.specs.Driven.{Went, Lost, EachLane, AllLanes, Counted};
 ghost use Rattle.nor_probe.specs.Asking.{ShowsQuery, Stays};
 ghost use Rattle.nor_probe.specs.Found.{shows_qry};
-ghost use Rattle.nor_probe.specs.Tables.{table_word, low_byte as low_byte_lem, difference_in, table_read, first_difference, known_byte as known_byte_lem, reads_at};
+ghost use Rattle.nor_probe.specs.Tables.{table_word, low_byte, difference_in, table_read};
+ghost use Rattle.nor_probe.specs.Tables.{first_difference, known_byte, reads_at};
 ghost use Rattle.nor_probe.specs.declared.error.ProbeError.TheVariants.{Off as LostPower};
 
 use crate::ProbeError;
@@ -22,7 +23,7 @@ const FIRST_SHOWN: u32 = 0x10;
 fn low_byte<W: BusWord>(word: W, g: Geometry, lane: u8) -> u8
     requires wiring { IsTrue (is_wiring W.WIDTH g.lanes g.device) }
     requires lane { lane < g.lanes }
-    ensures { result ≡ low_byte_lem g (W.bytes word) lane }
+    ensures { result ≡ low_byte g (W.bytes word) lane }
 {
     (lane_get(word, lane, lane_bytes(g.device)) % 256) as u8
 }
@@ -32,7 +33,7 @@ fn low_byte<W: BusWord>(word: W, g: Geometry, lane: u8) -> u8
 fn common_byte<W: BusWord>(word: W, g: Geometry, offset: u16) -> Result<u8, ProbeError>
     requires { IsTrue (is_wiring W.WIDTH g.lanes g.device) }
     ensures differs { result_err result ≡ difference_in g offset (W.bytes word) }
-    ensures byte { IfOk result (λ byte. byte ≡ low_byte_lem g (W.bytes word) 0) }
+    ensures byte { IfOk result (λ byte. byte ≡ low_byte g (W.bytes word) 0) }
     ensures power { IfErr result (λ e. e ≢ LostPower) }
 {
     let left = low_byte(word, g, 0);
@@ -54,7 +55,7 @@ fn common_byte<W: BusWord>(word: W, g: Geometry, offset: u16) -> Result<u8, Prob
 /// `QRY`, and nothing below [`FIRST_SHOWN`].
 fn known_byte(device: Device, offset: u16) -> Option<u8>
     requires { offset < 512 }
-    ensures { result ≡ known_byte_lem device offset }
+    ensures { result ≡ known_byte device offset }
 {
     match offset {
         0x10 => Some(b'Q'),
@@ -82,7 +83,7 @@ fn byte_at<W: BusWord, B: Bus<W>>(
         → result_err read ≡ difference_in g offset (table_word g chips offset)) }
     ensures byte { let chips = (B.state bus.old).lanes in
         IfOk result (λ read. AllLanes ShowsQuery (B.state bus.old) → shows_qry g chips ≡ true
-        → IfOk read (λ byte. byte ≡ low_byte_lem g (table_word g chips offset) 0)) }
+        → IfOk read (λ byte. byte ≡ low_byte g (table_word g chips offset) 0)) }
     ensures power { IfOk result (λ read. IfErr read (λ e. e ≢ LostPower)) }
     ensures lost { OnErr result (Lost 1 (B.state bus.old) (B.state bus.new)) }
     ensures units { units_of (B.state bus.new) ≡ units_of (B.state bus.old) }

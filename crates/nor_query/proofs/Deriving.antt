@@ -1,11 +1,9 @@
 -- What a query says beyond its fields is what a chip reads from the table that stands for it.
-use Rattle.std.proofs.Common.{◌≡◌, ◌<◌, ◌≤◌, ◌≢◌, ℕ, zero, suc, ◌+◌, ◌*◌, ◌-◌, ◌/◌, ◌%◌, ◌^◌, min, List, [], length, refl, sym, ◌∙◌, ap, arith}
+use Rattle.std.proofs.Common.{◌≡◌, ℕ, ◌+◌, ◌*◌, ◌/◌, ◌%◌, List, [], length, refl, sym, ◌∙◌, ap, arith}
 use Rattle.std.specs.Prelude.{◌==◌, ◌&&◌, nat_le, nat_lt, if◌then◌else◌, is_none, slice_index}
 use Rattle.std.proofs.lemmas.Bool.Decides.{nat_tests}
-use Rattle.std.proofs.Math.Pow.{pow_mono}
 use Rattle.nor_cell.specs.Bits.{has_bit}
-use Rattle.nor_cell.specs.Table.{extended_at, extended, set_of, suspend_kind, suspend_of as chip_suspend_of, has_locks, locks_of as chip_locks_of, buffer_units_of, at_least_two, limit}
-use Rattle.nor_cell.specs.declared.device.Device.TheVariants.{X16}
+use Rattle.nor_cell.specs.Table.{extended_at, extended, set_of, suspend_kind, suspend_of as chip_suspend_of, has_locks, locks_of as chip_locks_of, limit}
 use Rattle.nor_cell.specs.declared.device.Set.{Set}
 use Rattle.nor_cell.specs.declared.device.Set.TheVariants.{Intel as IntelSet, Amd as AmdSet}
 use Rattle.nor_cell.specs.declared.device.SuspendKind.TheVariants.{None as NoSuspend, Read as ReadOnly, Program as ReadProgram}
@@ -87,33 +85,6 @@ limit-times table times Chip same = ap (λ ts. limit_of ts Chip) same
 -- limits are what the chip reads
 pub limit_agrees : (table : List ℕ) (q : Query) (work : Work) → StandsFor table q → limit_of q.times work ≡ limit work table
 limit_agrees table q work stands = limit-times table q.times work stands.times
-
--- from two on a power of two isn't one
-powers : (k : ℕ) → 0 < k → k < 9 → 1 * 2 ^ k % 65536 ≡ at_least_two (2 ^ k)
-powers zero low high = absurd (omega arith)
-powers (suc zero) low high = refl
-powers (suc (suc zero)) low high = refl
-powers (suc (suc (suc zero))) low high = refl
-powers (suc (suc (suc (suc zero)))) low high = refl
-powers (suc (suc (suc (suc (suc zero))))) low high = refl
-powers (suc (suc (suc (suc (suc (suc zero)))))) low high = refl
-powers (suc (suc (suc (suc (suc (suc (suc zero))))))) low high = refl
-powers (suc (suc (suc (suc (suc (suc (suc (suc zero)))))))) low high = refl
-powers (suc (suc (suc (suc (suc (suc (suc (suc (suc k))))))))) low high = absurd (omega arith)
-
--- the buffer of a chip with sixteen wires, as it is computed
-pub sixteen_wide : (n m : ℕ) → n ≢ 0 → n ≢ 1 → m ≡ min n 9 → 1 * 2 ^ (m - 1) % 65536 ≡ buffer_units_of X16 n
-sixteen_wide zero m some more least = absurd (some refl)
-sixteen_wide (suc n) m some more least =
-    let low : 0 < m - 1 = omega arith in
-    let high : m - 1 < 9 = omega arith in
-    powers (m - 1) low high ∙ ap (λ k. at_least_two (2 ^ (k - 1))) least
-
--- so many reads fit
-pub few_reads : (m : ℕ) → m ≤ 20 → 1 * 2 ^ m % 4294967296 ≤ 1048576
-few_reads m least =
-    let most : 2 ^ m ≤ 2 ^ 20 = pow_mono least in
-    omega arith
 
 -- the map of the regions has the blocks of the table
 pub blocks_agree : (table : List ℕ) (q : Query) (regions : List Region) → StandsFor table q

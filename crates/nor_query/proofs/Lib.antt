@@ -4,5 +4,6 @@ pub mod Passing
 pub mod Reading
 pub mod Same
 pub mod Standing
+pub mod Tables
 pub mod Validating
 pub mod Written

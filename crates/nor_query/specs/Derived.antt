@@ -34,6 +34,11 @@ abbrev pub chip_erase_of : Set → List ℕ → Bool
 chip_erase_of IntelSet times = false
 chip_erase_of AmdSet times = not (slice_index times (time_of Chip) == 0)
 
+-- whether a chip of this set, which offers locks or not, keeps them without power
+abbrev pub keeps_locks : Set → Bool → Bool
+keeps_locks IntelSet offered = false
+keeps_locks AmdSet offered = offered
+
 -- Whether the regions lie in the chip last to first: an Amd chip of version 1.1 or later that boots from its top, with several regions.
 abbrev pub is_reversed_in : Set → List ℕ → Bool
 is_reversed_in IntelSet table = false

@@ -1,30 +1,25 @@
 //! What a query says beyond its fields.
 ghost use Rattle.std.specs.Prelude.{◌≡◌, ◌<◌, ◌≤◌, ◌^◌, ℕ, List, length};
-ghost use Rattle.nor_cell.specs.Bits.{has_bit};
-ghost use Rattle.nor_cell.specs.Table.{set_of, suspend_kind, intel_suspend, amd_suspend, has_locks, has_chip_erase, buffer_units_of, buffer_units, most_reads, limit};
-ghost use Rattle.nor_query.specs.Derived.{suspend_of, locks_of, chip_erase_of, is_reversed, is_reversed_in, table_blocks, time_of, limit_of};
+ghost use Rattle.nor_cell.specs.Table.{set_of, suspend_kind, has_locks, has_chip_erase};
+ghost use Rattle.nor_cell.specs.Table.{buffer_units_of, buffer_units, limit};
+ghost use Rattle.nor_query.specs.Derived.{suspend_of, locks_of, chip_erase_of};
+ghost use Rattle.nor_query.specs.Derived.{is_reversed, is_reversed_in, table_blocks, time_of, limit_of};
 ghost use Rattle.nor_query.specs.Stands.{StandsFor};
 ghost use Rattle.nor_query.specs.Valid.{IsValid};
 ghost use Rattle.nor_region.specs.Map.{in_order, spans_of};
 ghost use Rattle.nor_region.specs.Regions.{total_len};
 
 use crate::{Extended, Query};
-use nor_cell::{Device, Set, SuspendKind, Work};
+use nor_cell::{
+    Device, Set, SuspendKind, Work, amd_suspend, buffer_units_of, has_bit, intel_suspend,
+    most_reads,
+};
 use nor_region::{BlockMap, block_map};
 
-// Feature bits of the Intel set, and the bit that offers programming while an erase is suspended.
-const ERASE_SUSPEND: u32 = 1;
-
+// A feature bit of the Intel set.
 const INSTANT_LOCKING: u32 = 5;
 
-const PROGRAM_IN_SUSPEND: u32 = 0;
-
-// Numbers of the Amd set: for the kind of erase suspend, for advanced sector protection, and for a
-// chip that boots from its top.
-const SUSPEND_TO_READ: u8 = 1;
-
-const SUSPEND_TO_PROGRAM: u8 = 2;
-
+// Numbers of the Amd set: for advanced sector protection, and for a chip that boots from its top.
 const ADVANCED_PROTECTION: u8 = 8;
 
 const TOP_BOOT: u8 = 3;
@@ -33,7 +28,8 @@ impl Query {
     /// What may be done in other blocks while an erase is suspended.
     pub fn suspend_kind(&self) -> SuspendKind
         ensures value { result ≡ suspend_of self.now.extended }
-        ensures chip { (table : List ℕ) → StandsFor table self.now → result ≡ suspend_kind table }
+        ensures chip { (table : List ℕ) → StandsFor table self.now
+            → result ≡ suspend_kind table }
     {
         suspend_of(self.extended)
     }
@@ -41,7 +37,8 @@ impl Query {
     /// Whether blocks can be locked one by one.
     pub fn has_locks(&self) -> bool
         ensures value { result ≡ locks_of self.now.extended }
-        ensures chip { (table : List ℕ) → StandsFor table self.now → result ≡ has_locks table }
+        ensures chip { (table : List ℕ) → StandsFor table self.now
+            → result ≡ has_locks table }
     {
         locks_of(self.extended)
     }
@@ -49,7 +46,8 @@ impl Query {
     /// Whether the whole chip can be erased at once: an Amd chip that gives a typical time for it.
     pub fn has_chip_erase(&self) -> bool
         ensures value { result ≡ chip_erase_of self.now.set self.now.times }
-        ensures chip { (table : List ℕ) → StandsFor table self.now → result ≡ has_chip_erase table }
+        ensures chip { (table : List ℕ) → StandsFor table self.now
+            → result ≡ has_chip_erase table }
     {
         match self.set {
             Set::Intel => false,
@@ -60,8 +58,10 @@ impl Query {
     /// Whether the last region lies at the lowest address: an Amd chip of version 1.1 or later that
     /// boots from its top, with more than one region.
     pub fn reversed(&self) -> bool
-        ensures value { result ≡ is_reversed self.now.extended self.now.minor (length self.now.regions.items) }
-        ensures chip { (table : List ℕ) → StandsFor table self.now → result ≡ is_reversed_in (set_of table) table }
+        ensures value { result
+            ≡ is_reversed self.now.extended self.now.minor (length self.now.regions.items) }
+        ensures chip { (table : List ℕ) → StandsFor table self.now
+            → result ≡ is_reversed_in (set_of table) table }
     {
         is_reversed(self.extended, self.minor, self.regions.len())
     }
@@ -72,7 +72,8 @@ impl Query {
         ensures regions { let regions = self.now.regions.items in
             result ≡ in_order (is_reversed self.now.extended self.now.minor (length regions)) regions }
         ensures size { total_len result ≡ 2 ^ self.now.size_log }
-        ensures chip { (table : List ℕ) → StandsFor table self.now → spans_of result ≡ table_blocks table }
+        ensures chip { (table : List ℕ) → StandsFor table self.now
+            → spans_of result ≡ table_blocks table }
     {
         block_map(&self.regions, self.reversed(), 1 << self.size_log).unwrap()
     }
@@ -81,7 +82,8 @@ impl Query {
     /// are programmed one by one.
     pub fn buffer_units(&self, device: Device) -> u16
         ensures value { result ≡ buffer_units_of device self.now.buffer_log }
-        ensures chip { (table : List ℕ) → StandsFor table self.now → result ≡ buffer_units device table }
+        ensures chip { (table : List ℕ) → StandsFor table self.now
+            → result ≡ buffer_units device table }
     {
         buffer_units_of(device, self.buffer_log)
     }
@@ -90,39 +92,11 @@ impl Query {
     /// a chip that isn't shows a job of this kind working.
     pub fn limit(&self, work: Work) -> u32
         ensures value { result ≡ limit_of self.now.times work }
-        ensures chip { (table : List ℕ) → StandsFor table self.now → result ≡ limit work table }
+        ensures chip { (table : List ℕ) → StandsFor table self.now
+            → result ≡ limit work table }
     {
         let time = time_of(work);
         most_reads(self.times[time], self.times[time + 4]) + 16
-    }
-}
-
-fn has_bit(word: u32, bit: u32) -> bool
-    requires { bit < 32 }
-    ensures { result ≡ has_bit word bit }
-{
-    (word >> bit) % 2 == 1
-}
-
-fn intel_suspend(features: u32, in_suspend: u8) -> SuspendKind
-    ensures { result ≡ intel_suspend features in_suspend }
-{
-    if !has_bit(features, ERASE_SUSPEND) {
-        SuspendKind::None
-    } else if has_bit(u32::from(in_suspend), PROGRAM_IN_SUSPEND) {
-        SuspendKind::Program
-    } else {
-        SuspendKind::Read
-    }
-}
-
-fn amd_suspend(suspend: u8) -> SuspendKind
-    ensures { result ≡ amd_suspend suspend }
-{
-    match suspend {
-        SUSPEND_TO_READ => SuspendKind::Read,
-        SUSPEND_TO_PROGRAM => SuspendKind::Program,
-        _ => SuspendKind::None,
     }
 }
 
@@ -156,20 +130,6 @@ fn is_reversed(extended: Extended, minor: u8, regions: usize) -> bool
     }
 }
 
-fn buffer_units_of(device: Device, exponent: u16) -> u16
-    ensures { result ≡ buffer_units_of device exponent }
-{
-    if exponent == 0 {
-        return 0;
-    }
-    match device {
-        Device::X8 => 1 << exponent.min(8),
-        Device::X16 if exponent == 1 => 0,
-        Device::X16 => 1 << (exponent.min(9) - 1),
-        Device::X16Byte => 0,
-    }
-}
-
 // Where the typical exponent of a time stands among the eight, the greatest being four further.
 fn time_of(work: Work) -> usize
     ensures { result ≡ time_of work }
@@ -180,13 +140,4 @@ fn time_of(work: Work) -> usize
         Work::Block => 2,
         Work::Chip => 3,
     }
-}
-
-// How many status reads a job shows working at most, by its exponents.
-fn most_reads(typical: u8, greatest: u8) -> u32
-    ensures value { result ≡ most_reads typical greatest }
-    ensures few { result ≤ 2 ^ 20 }
-{
-    let exponent = u32::from(typical) + u32::from(greatest);
-    1 << exponent.min(20)
 }

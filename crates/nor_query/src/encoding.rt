@@ -28,7 +28,8 @@ fn put(table: &mut [u8; 512], at: usize, bytes: &[u8])
     requires { at + length bytes.now ≤ 512 }
     ensures len { length table.new ≡ 512 }
     ensures bytes { AreBytes table.new }
-    ensures inside { (k : ℕ) → k < length bytes.now → slice_index table.new (at + k) ≡ slice_index bytes.now k }
+    ensures inside { (k : ℕ) → k < length bytes.now
+        → slice_index table.new (at + k) ≡ slice_index bytes.now k }
     ensures below { SameWithin 0 at table.old table.new }
     ensures above { SameWithin (at + length bytes.now) 512 table.old table.new }
 {
@@ -100,7 +101,8 @@ fn put_extended(table: &mut [u8; 512], ext: usize, minor: u8, extended: Extended
     ensures bytes { AreBytes table.new }
     ensures reads { ExtendedReads table.new ext minor extended }
     ensures below { SameWithin 0 ext table.old table.new }
-    ensures free { (k : ℕ) → ext + k < 512 → is_named_extended (set_of_extended extended) k ≡ false
+    ensures free { (k : ℕ) → ext + k < 512
+        → is_named_extended (set_of_extended extended) k ≡ false
         → slice_index table.new (ext + k) ≡ slice_index table.old (ext + k) }
 {
     put(table, ext, &[b'P', b'R', b'I', b'1', b'0' + minor]);

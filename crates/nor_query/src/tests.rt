@@ -167,74 +167,22 @@ fn the_first_check_that_fails_is_named(rt: HostRuntime) {
             (0x35, 0x36, 0x35, QueryKind::UnknownVersion),
         ],
     );
-    fails(
-        &rt,
-        &[
-            (
-                0x2D,
-                0x00,
-                0x2D,
-                QueryKind::SizeMismatch {
-                    sum: 1024,
-                    size: 8192,
-                },
-            ),
-            (
-                0x2D,
-                0x06,
-                0x2D,
-                QueryKind::SizeMismatch {
-                    sum: 7168,
-                    size: 8192,
-                },
-            ),
-            (
-                0x2D,
-                0xFF,
-                0x2D,
-                QueryKind::SizeMismatch {
-                    sum: 262_144,
-                    size: 8192,
-                },
-            ),
-            (
-                0x2E,
-                0xFF,
-                0x2D,
-                QueryKind::SizeMismatch {
-                    sum: 66_854_912,
-                    size: 8192,
-                },
-            ),
-            (
-                0x2F,
-                0x00,
-                0x2D,
-                QueryKind::SizeMismatch {
-                    sum: 1024,
-                    size: 8192,
-                },
-            ),
-            (
-                0x2F,
-                0xFF,
-                0x2D,
-                QueryKind::SizeMismatch {
-                    sum: 522_240,
-                    size: 8192,
-                },
-            ),
-            (
-                0x30,
-                0xFF,
-                0x2D,
-                QueryKind::SizeMismatch {
-                    sum: 133_701_632,
-                    size: 8192,
-                },
-            ),
-        ],
-    );
+}
+
+#[test]
+fn regions_that_do_not_fill_the_chip_are_refused(rt: HostRuntime) {
+    for (at, byte, sum) in [
+        (0x2D, 0x00, 1024),
+        (0x2D, 0x06, 7168),
+        (0x2D, 0xFF, 262_144),
+        (0x2E, 0xFF, 66_854_912),
+        (0x2F, 0x00, 1024),
+        (0x2F, 0xFF, 522_240),
+        (0x30, 0xFF, 133_701_632),
+    ] {
+        let kind = QueryKind::SizeMismatch { sum, size: 8192 };
+        fails(&rt, &[(at, byte, 0x2D, kind)]);
+    }
 }
 
 #[test]
@@ -281,114 +229,94 @@ fn a_top_boot_chip_has_its_last_region_first(rt: HostRuntime) -> Result<(), Fail
     Ok(())
 }
 
-// Suspend, locks, reversed, buffer units for the three devices, limits for the three works.
-fn says(
-    rt: &impl Abort,
-    table: &[u8; 512],
-    suspend: SuspendKind,
-    locks: bool,
-    reversed: bool,
-    units: [u16; 3],
-    limits: [u32; 3],
-) -> Result<(), Fail> {
+// What a table says: its suspend, locks, whether its regions are reversed, buffer units for the three
+// devices, and limits for the three works.
+type Says = ([u8; 512], SuspendKind, bool, bool, [u16; 3], [u32; 3]);
+
+fn says(rt: &impl Abort, row: &Says) -> Result<(), Fail> {
+    let (table, suspend, locks, reversed, units, limits) = row;
     let query = decode(table)?;
-    assert_eq!(rt; query.suspend_kind(), suspend);
-    assert_eq!(rt; query.has_locks(), locks);
-    assert_eq!(rt; query.reversed(), reversed);
-    let [x8, x16, x16_byte] = units;
-    assert_eq!(rt; query.buffer_units(Device::X8), x8);
-    assert_eq!(rt; query.buffer_units(Device::X16), x16);
-    assert_eq!(rt; query.buffer_units(Device::X16Byte), x16_byte);
-    let [word, buffer, block] = limits;
-    assert_eq!(rt; query.limit(Work::Word), word);
-    assert_eq!(rt; query.limit(Work::Buffer), buffer);
-    assert_eq!(rt; query.limit(Work::Block), block);
+    assert_eq!(rt; query.suspend_kind(), *suspend);
+    assert_eq!(rt; query.has_locks(), *locks);
+    assert_eq!(rt; query.reversed(), *reversed);
+    for (k, device) in [Device::X8, Device::X16, Device::X16Byte]
+        .iter()
+        .enumerate()
+    {
+        assert_eq!(rt; units.get(k).copied(), Some(query.buffer_units(*device)));
+    }
+    for (k, work) in [Work::Word, Work::Buffer, Work::Block].iter().enumerate() {
+        assert_eq!(rt; limits.get(k).copied(), Some(query.limit(*work)));
+    }
     Ok(())
 }
 
 #[test]
 fn what_a_chip_offers(rt: HostRuntime) -> Result<(), Fail> {
-    says(
-        &rt,
-        &tables::intel(),
-        SuspendKind::Program,
-        true,
-        false,
-        [32, 16, 0],
-        [80, 272, 4112],
-    )?;
-    says(
-        &rt,
-        &tables::amd(),
-        SuspendKind::Program,
-        true,
-        false,
-        [32, 16, 0],
-        [80, 272, 4112],
-    )?;
-    says(
-        &rt,
-        &tables::top_boot(),
-        SuspendKind::Program,
-        true,
-        true,
-        [32, 16, 0],
-        [80, 272, 4112],
-    )?;
-    says(
-        &rt,
-        &tables::large(),
-        SuspendKind::Program,
-        true,
-        false,
-        [32, 16, 0],
-        [528, 1040, 4112],
-    )?;
-    says(
-        &rt,
-        &tables::musicpal_top(),
-        SuspendKind::Program,
-        false,
-        false,
-        [0, 0, 0],
-        [272, 17, 524_304],
-    )?;
-    says(
-        &rt,
-        &tables::ml605(),
-        SuspendKind::None,
-        false,
-        false,
-        [256, 256, 0],
-        [2064, 2064, 16_400],
-    )?;
-    let mut table = tables::intel();
-    table[0x1F] = 0xFF;
-    table[0x2A] = 1;
-    table[0x36] = 2;
-    table[0x3A] = 2;
-    says(
-        &rt,
-        &table,
-        SuspendKind::Read,
-        false,
-        false,
-        [2, 0, 0],
-        [1_048_592, 272, 4112],
-    )?;
+    let (all, read, none) = (SuspendKind::Program, SuspendKind::Read, SuspendKind::None);
+    let mut reads = tables::intel();
+    reads[0x1F] = 0xFF;
+    reads[0x2A] = 1;
+    reads[0x36] = 2;
+    reads[0x3A] = 2;
     let mut version_0 = tables::top_boot();
     version_0[0x3D] = 0x30;
     version_0[0x3F] = 1;
     version_0[0x42] = 0;
-    says(
-        &rt,
-        &version_0,
-        SuspendKind::Read,
-        false,
-        false,
-        [32, 16, 0],
-        [80, 272, 4112],
-    )?;
+    for row in [
+        (
+            tables::intel(),
+            all,
+            true,
+            false,
+            [32, 16, 0],
+            [80, 272, 4112],
+        ),
+        (
+            tables::amd(),
+            all,
+            true,
+            false,
+            [32, 16, 0],
+            [80, 272, 4112],
+        ),
+        (
+            tables::top_boot(),
+            all,
+            true,
+            true,
+            [32, 16, 0],
+            [80, 272, 4112],
+        ),
+        (
+            tables::large(),
+            all,
+            true,
+            false,
+            [32, 16, 0],
+            [528, 1040, 4112],
+        ),
+        (
+            tables::musicpal_top(),
+            all,
+            false,
+            false,
+            [0, 0, 0],
+            [272, 17, 524_304],
+        ),
+        (
+            tables::ml605(),
+            none,
+            false,
+            false,
+            [256, 256, 0],
+            [2064, 2064, 16_400],
+        ),
+        (reads, read, false, false, [2, 0, 0], [1_048_592, 272, 4112]),
+        (version_0, read, false, false, [32, 16, 0], [80, 272, 4112]),
+    ] {
+        says(&rt, &row)?;
+    }
     Ok(())
 }
 

@@ -3,6 +3,7 @@ use Rattle.std.proofs.Common.{◌≡◌, ◌<◌, ◌≤◌, ◌+◌, ◌-◌, �
 use Rattle.std.specs.Prelude.{slice_get, All}
 use Rattle.std.proofs.lemmas.Bool.{cases_lt}
 use Rattle.std.proofs.lemmas.Option.{slice_get_within, slice_get-get_or}
+use Rattle.nor_cell.proofs.Logic.{same_number}
 use Rattle.nor_array.specs.declared.entry.Entry.{Entry}
 use Rattle.nor_bank.specs.State.{BankState}
 use Rattle.nor_turn.specs.Fronts.{Name, Front}
@@ -42,9 +43,6 @@ some_is x y e = cc
 
 false_is : {B : Type 0} → false ≡ true → B
 false_is e = absurd (cc)
-
-same_number : (x y : ℕ) → (x == y) ≡ true → x ≡ y
-same_number x y e = grind (arith, e)
 
 other_number : (x y : ℕ) → (x == y) ≡ false → x ≡ y → ⊥
 other_number x y e same = grind (arith, e, same)

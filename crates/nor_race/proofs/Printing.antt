@@ -6,6 +6,7 @@ use Rattle.std.proofs.lemmas.Option.{slice_get_within, slice_get-get_or}
 use Rattle.nor_io.specs.Files.{SinkState, Appends, AppendsPart}
 use Rattle.nor_io.specs.declared.sink.SinkError.{SinkError}
 use Rattle.nor_io.proofs.Pieces.{Appends-append, AppendsPart-append, AppendsPart-more}
+use Rattle.nor_io.proofs.Putting.{nothing_put}
 use Rattle.nor_array.specs.Array.{ArrayState}
 use Rattle.nor_array.specs.declared.entry.Entry.{Entry}
 use Rattle.nor_array.specs.declared.entry.Op.{Op}
@@ -26,7 +27,7 @@ use Rattle.nor_run.specs.Running.{PutsReply, IsHistoryOf, RunsLines, line_of_ent
 use Rattle.nor_run.specs.Started.{of_put}
 use Rattle.nor_run.specs.declared.error.RunError.{RunError}
 use Rattle.nor_run.specs.declared.lines.Ran.{Ran}
-use Rattle.nor_run.proofs.Growing.{nothing_put, text_more, halt_last, part_put, and_first, and_second}
+use Rattle.nor_run.proofs.Growing.{text_more, halt_last, part_put, and_first, and_second}
 use Rattle.nor_race.specs.Puts.{AreTold, HasHistory, PutsAll, PutsSome}
 use Rattle.nor_race.specs.Races.{Races}
 use Rattle.nor_race.specs.Ran.{Tells}

@@ -144,7 +144,8 @@ impl BlockMap {
         ensures first { result ≡ block_at (spans_of self.now) at }
         ensures block { result < length (spans_of self.now) }
         ensures inside { IsTrue (is_within (nth (spans_of self.now) result) at) }
-        ensures only { (b : ℕ) → b < length (spans_of self.now) → IsTrue (is_within (nth (spans_of self.now) b) at) → b ≡ result }
+        ensures only { (b : ℕ) → b < length (spans_of self.now)
+            → IsTrue (is_within (nth (spans_of self.now) b) at) → b ≡ result }
     {
         block_at(self.regions(), at)
     }

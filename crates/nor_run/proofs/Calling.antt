@@ -1,10 +1,8 @@
 -- One call of a bank, and its entry.
-use Rattle.std.proofs.Common.{◌≡◌, ◌≤◌, ℕ, List, [], length, None, Result, refl, sym, subst, arith}
+use Rattle.std.proofs.Common.{◌≡◌, ◌≤◌, ℕ, List, [], true, None, Result, refl, sym, subst, arith}
 use Rattle.nor_io.specs.Files.{SinkState}
-use Rattle.nor_bus.specs.Driven.{EachLane}
 use Rattle.nor_array.specs.Array.{ArrayState}
-use Rattle.nor_array.specs.Admits.{first_locked}
-use Rattle.nor_array.proofs.Unlocked.{none_locked}
+use Rattle.nor_array.proofs.Unlocked.{is_range}
 use Rattle.nor_array.specs.declared.entry.Op.{Op}
 use Rattle.nor_array.specs.declared.entry.Op.TheVariants.{Read, Program}
 use Rattle.nor_array.specs.declared.entry.Reply.{Reply}
@@ -13,11 +11,10 @@ use Rattle.nor_io.specs.declared.sink.SinkError.{SinkError}
 use Rattle.nor_script.specs.Report.{entry_line}
 use Rattle.nor_script.specs.declared.line.Word.{Word}
 use Rattle.nor_script.specs.declared.line.Word.TheVariants.{Call}
-use Rattle.nor_bank.specs.Calls.{Makes, MakesEntry, entry_of}
-use Rattle.nor_bank.specs.Programs.{Lasts}
-use Rattle.nor_bank.specs.Stands.{Stands}
+use Rattle.nor_bank.specs.Calls.{IsCall, entry_of}
 use Rattle.nor_bank.specs.State.{BankState}
-use Rattle.nor_bank.specs.Work.{IsBuilt, CanCall, range_refusal}
+use Rattle.nor_bank.specs.Work.{CanCall, range_refusal}
+use Rattle.nor_bank.proofs.Called.{can_make}
 use Rattle.nor_run.specs.Running.{PutsReply, RunsCall, RunsWord, line_of_entry}
 
 -- ---- what is told of an entry is told of its call
@@ -40,74 +37,45 @@ read_text old new position caller at len NotYet given = refl
 read_text old new position caller at len (Failed from to lanes) given = refl
 read_text old new position caller at len (Halted cause) given = refl
 
--- ---- a bank that a call leaves as it is
-
-pub lasts_self : (b : BankState) (a : ArrayState) → Stands b a → EachLane Lasts b.bus b.bus
-lasts_self b a stands = λ c below. record {
-  part = refl;
-  locks = refl;
-  suspends = refl;
-  erases = refl;
-  size = refl;
-  bytes = (stands.known.wired.chips c below).chip.bytes;
-}
-
 -- ---- calls
 
+call_runs : (old new : BankState) (a : ArrayState) (caller : ℕ) (op : Op) (position : ℕ) (given : List ℕ) (reply : Reply) (before after : SinkState) (result : Result Reply SinkError)
+    → CanCall old a → is_range op ≡ true → IsCall caller op old new reply given
+    → PutsReply (line_of_entry position (entry_of old new caller op reply given)) reply before after result
+    → RunsCall caller op position old new a before after result
+call_runs old new a caller op position given reply before after result can range call puts =
+    let built = can_make old a op range can in
+    record {
+      entry = entry_of old new caller op reply given;
+      is = record { called_by = refl; calls = refl };
+      makes = call.makes a built;
+      lasts = call.lasts a built;
+      puts = puts;
+    }
+
 -- a read
-pub read_runs : (old new : BankState) (a : ArrayState) (caller at len position : ℕ) (into given : List ℕ) (reply : Reply) (before after : SinkState) (result : Result Reply SinkError)
-    → CanCall old a → length into ≡ len
-    → (old.erase ≡ None → Makes old new (entry_of old new caller (Read at (length into)) reply given))
-    → EachLane Lasts old.bus new.bus
+pub read_runs : (old new : BankState) (a : ArrayState) (caller at len n position : ℕ) (given : List ℕ) (reply : Reply) (before after : SinkState) (result : Result Reply SinkError)
+    → CanCall old a → n ≡ len → IsCall caller (Read at n) old new reply given
     → PutsReply (entry_line position caller (Read at len) reply given) reply before after result
     → RunsCall caller (Read at len) position old new a before after result
-read_runs old new a caller at len position into given reply before after result can is makes lasts puts =
-    record {
-      entry = entry_of old new caller (Read at len) reply given;
-      is = record { called_by = refl; calls = refl };
-      makes = subst (λ (n : ℕ). MakesEntry old new (entry_of old new caller (Read at n) reply given) a) is (makes can.closed a can.stands);
-      lasts = lasts;
-      puts = subst (λ (t : List ℕ). PutsReply t reply before after result) (read_text old new position caller at len reply given) puts;
-    }
+read_runs old new a caller at len n position given reply before after result can is call puts =
+    call_runs old new a caller (Read at len) position given reply before after result can refl
+    (subst (λ (m : ℕ). IsCall caller (Read at m) old new reply given) is call)
+    (subst (λ (t : List ℕ). PutsReply t reply before after result) (read_text old new position caller at len reply given) puts)
 
 -- a program
 pub program_runs : (old new : BankState) (a : ArrayState) (caller at position : ℕ) (bytes : List ℕ) (op : Op) (reply : Reply) (before after : SinkState) (result : Result Reply SinkError)
-    → op ≡ Program at bytes → CanCall old a
-    → (old.erase ≡ None → IsBuilt old → (x : ArrayState) → Stands old x → first_locked x (Program at bytes) ≡ None
-    → MakesEntry old new (entry_of old new caller (Program at bytes) reply []) x)
-    → (old.erase ≡ None → IsBuilt old → (x : ArrayState) → Stands old x → first_locked x (Program at bytes) ≡ None → EachLane Lasts old.bus new.bus)
+    → op ≡ Program at bytes → CanCall old a → IsCall caller (Program at bytes) old new reply []
     → PutsReply (entry_line position caller op reply []) reply before after result
     → RunsCall caller op position old new a before after result
-program_runs old new a caller at position bytes op reply before after result is can makes lasts puts =
-    let free = none_locked a at bytes can.unlocked in
+program_runs old new a caller at position bytes op reply before after result is can call puts =
     let all : PutsReply (entry_line position caller (Program at bytes) reply []) reply before after result → RunsCall caller (Program at bytes) position old new a before after result =
-    λ put. record {
-      entry = entry_of old new caller (Program at bytes) reply [];
-      is = record { called_by = refl; calls = refl };
-      makes = makes can.closed can.built a can.stands free;
-      lasts = lasts can.closed can.built a can.stands free;
-      puts = put;
-    } in
+    λ put. call_runs old new a caller (Program at bytes) position [] reply before after result can refl call put in
     subst (λ (o : Op). PutsReply (entry_line position caller o reply []) reply before after result → RunsCall caller o position old new a before after result) (sym is) all puts
 
 -- what isn't refused is short
 pub fits_call : (size at len : ℕ) → None ≡ range_refusal size at len → len ≤ 4096
 fits_call size at len none = grind (arith, none)
-
--- a read that is refused
-pub refused_runs : (b : BankState) (a : ArrayState) (caller at len n position : ℕ) (reply : Reply) (before after : SinkState) (result : Result Reply SinkError)
-    → CanCall b a → n ≡ len
-    → (b.erase ≡ None → (k : ℕ) → Makes b b (entry_of b b k (Read at n) reply []))
-    → PutsReply (entry_line position caller (Read at len) reply []) reply before after result
-    → RunsCall caller (Read at len) position b b a before after result
-refused_runs b a caller at len n position reply before after result can is makes puts =
-    record {
-      entry = entry_of b b caller (Read at len) reply [];
-      is = record { called_by = refl; calls = refl };
-      makes = subst (λ (m : ℕ). MakesEntry b b (entry_of b b caller (Read at m) reply []) a) is (makes can.closed caller a can.stands);
-      lasts = lasts_self b a can.stands;
-      puts = subst (λ (t : List ℕ). PutsReply t reply before after result) (read_text b b position caller at len reply []) puts;
-    }
 
 -- ---- by the call of a line
 

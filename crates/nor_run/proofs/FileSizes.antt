@@ -4,14 +4,14 @@ use Rattle.std.proofs.Common.{◌≡◌, ◌<◌, ◌+◌, ◌∙◌, ◌++◌, 
 use Rattle.std.proofs.lemmas.List.{length-append}
 use Rattle.nor_cell.specs.Chip.{ChipState, Part}
 use Rattle.nor_cell.specs.Steps.{Keeps}
-use Rattle.nor_cell.specs.Table.{set_of}
-use Rattle.nor_query.specs.Derived.{table_blocks}
+use Rattle.nor_cell.specs.Table.{has_locks, set_of}
+use Rattle.nor_query.specs.Derived.{keeps_locks, table_blocks}
 use Rattle.nor_bus.specs.Bus.{BusState, chip_at, lanes_of}
 use Rattle.nor_bus.specs.Cycles.{KeepsLanes}
 use Rattle.nor_bus.specs.Driven.{EachLane}
 use Rattle.nor_bank.specs.Programs.{Lasts}
 use Rattle.nor_cell.specs.declared.device.Set.{Set}
-use Rattle.nor_image.specs.Image.{is_size_by, keeps_locks, kept_locks}
+use Rattle.nor_image.specs.Image.{is_size_by, kept_locks}
 use Rattle.nor_image.specs.Written.{number_bytes, place_bytes, lock_bytes, kept_bytes, kept_of, record_bytes, records_bytes, header_bytes, bank_set, file_of, AreStorable, AgreeOnLocks}
 use Rattle.nor_image.specs.declared.header.Version.TheVariants.{Two}
 use Rattle.nor_image.proofs.ReadBack.{length-lock_bytes}
@@ -44,7 +44,7 @@ kept_length part ls ms xs ys a b c d locks same =
 
 -- as many locks are kept
 kept_count : (set : Set) (s t : ChipState) → Keeps s t → length (kept_of set t) ≡ length (kept_of set s)
-kept_count set s t keeps = ap (λ (p : Part). length (kept_locks set p.table t.locks)) keeps.part ∙ by_test (keeps_locks set s.part.table) keeps.locks
+kept_count set s t keeps = ap (λ (p : Part). length (kept_locks set p.table t.locks)) keeps.part ∙ by_test (keeps_locks set (has_locks s.part.table)) keeps.locks
   where
     by_test : (b : Bool) → length t.locks ≡ length s.locks → length (if b then t.locks else []) ≡ length (if b then s.locks else [])
     by_test true same = same

@@ -1,11 +1,13 @@
 -- A history that grows, line by line.
 use Rattle.std.proofs.Common.{◌≡◌, ◌<◌, ◌≤◌, ◌+◌, ◌∙◌, ◌||◌, ◌&&◌, IfOk, IfErr, ◌++◌, ◌∷◌, ℕ, zero, suc, List, [], length, take, get_or, slice_index_or, Bool, true, false, Option, Some, None, Result, Ok, Err, refl, sym, ap, subst, arith, append_assoc, append-nil}
 use Rattle.std.proofs.lemmas.List.{length-append, take_all}
+use Rattle.std.proofs.Math.Bool.{or-false}
 use Rattle.std.proofs.Math.Seq.{take-suc}
 use Rattle.nor_io.specs.Files.{SinkState, Rose, Appends, AppendsPart}
 use Rattle.nor_io.specs.declared.sink.SinkError.{SinkError}
 use Rattle.nor_io.specs.declared.sink.SinkError.TheVariants.{Fault, NoMemory}
 use Rattle.nor_io.proofs.Pieces.{Appends-append, AppendsPart-append}
+use Rattle.nor_io.proofs.Putting.{nothing_put}
 use Rattle.nor_cell.specs.Chip.{Part}
 use Rattle.nor_bus.specs.Bus.{BusState, lanes_of}
 use Rattle.nor_bus.specs.Cycles.{KeepsLanes}
@@ -17,7 +19,7 @@ use Rattle.nor_array.specs.declared.entry.Entry.{Entry}
 use Rattle.nor_array.specs.declared.entry.Op.{Op}
 use Rattle.nor_array.specs.declared.entry.Op.TheVariants.{Read, Program, EraseOpen, EraseAll, Poll, Lock, Unlock, IsLocked, Arm, PowerOn}
 use Rattle.nor_array.specs.declared.entry.Reply.{Reply}
-use Rattle.nor_array.proofs.Histories.{legal_more}
+use Rattle.nor_array.proofs.Histories.{after_last, legal_more}
 use Rattle.nor_array.proofs.Unlocked.{range_locks}
 use Rattle.nor_array.specs.Entries.{IsOf}
 use Rattle.nor_script.specs.Answering.{AnswersWord, AnswersRun}
@@ -37,13 +39,9 @@ use Rattle.nor_run.specs.Running.{PutsReply, RunsCall, RunsWord, IsHistoryOf, Ru
 use Rattle.nor_run.specs.Started.{of_put}
 use Rattle.nor_run.specs.declared.error.RunError.{RunError}
 use Rattle.nor_run.specs.declared.lines.Ran.{Ran}
-use Rattle.nor_run.proofs.Calling.{lasts_self}
+use Rattle.nor_bank.proofs.Standing.{lasts_on, lasts_self}
 
 -- ---- lists
-
-pub after_last : (a : ArrayState) (es : List Entry) (e : Entry) → after_all a (es ++ e ∷ []) ≡ after (after_all a es) e
-after_last a [] e = refl
-after_last a (x ∷ es) e = after_last (after a x) es e
 
 pub lines_last : (position : ℕ) (es : List Entry) (e : Entry) → entry_lines position (es ++ e ∷ []) ≡ entry_lines position es ++ line_of_entry (position + length es) e
 lines_last position [] e =
@@ -58,35 +56,14 @@ or_assoc : (x y z : Bool) → (x || (y || z)) ≡ ((x || y) || z)
 or_assoc true y z = refl
 or_assoc false y z = refl
 
-or_false : (x : Bool) → (x || false) ≡ x
-or_false true = refl
-or_false false = refl
-
 pub halt_last : (es : List Entry) (e : Entry) → has_halt (es ++ e ∷ []) ≡ (has_halt es || is_halt e.reply)
-halt_last [] e = or_false (is_halt e.reply)
+halt_last [] e = or-false (is_halt e.reply)
 halt_last (x ∷ es) e = ap (λ (b : Bool). is_halt x.reply || b) (halt_last es e) ∙ or_assoc (is_halt x.reply) (has_halt es) (is_halt e.reply)
-
-pub nothing_put : (before : Option (List ℕ)) → Appends before [] before
-nothing_put None = refl
-nothing_put (Some before) = ap (λ (r : List ℕ). Some r) (sym (append-nil before))
 
 -- ---- what no call changes
 
 pub same_facts : (old new : BankState) → KeepsBank old new → facts_of new ≡ facts_of old
 same_facts old new keeps = facts_last old new keeps.found keeps.lanes.count (λ c below. (keeps.lanes.each c below).part)
-
-pub lasts_then : (x y z : BusState) → KeepsLanes x y → EachLane Lasts x y → EachLane Lasts y z → EachLane Lasts x z
-lasts_then x y z keeps first next = λ c below.
-    let one = first c below in
-    let two = next c (subst (λ (n : ℕ). c < n) (sym keeps.count) below) in
-    record {
-      part = two.part ∙ one.part;
-      locks = two.locks ∙ one.locks;
-      suspends = two.suspends ∙ one.suspends;
-      erases = two.erases ∙ one.erases;
-      size = two.size ∙ one.size;
-      bytes = two.bytes;
-    }
 
 still_built : (old new : BankState) → KeepsBank old new → IsBuilt old → IsBuilt new
 still_built old new keeps built c below =
@@ -150,7 +127,7 @@ one_more lines n line op old now new a es e below at word of keeps is makes last
       answers_more (take n lines) (line ∷ []) es (e ∷ []) is.answers (answers_line line (e ∷ []) one) in
       subst (λ (ls : List Line). AnswersRun ls (es ++ e ∷ [])) (sym (take-suc lines n line below ∙ ap (λ (l : Line). take n lines ++ l ∷ []) at)) more;
   stands = subst (λ (x : ArrayState). Stands new x) (sym (after_last a es e)) makes.stands;
-  lasts = lasts_then old.bus now.bus new.bus keeps.lanes is.lasts lasts;
+  lasts = lasts_on old.bus now.bus new.bus keeps.lanes.count is.lasts lasts;
 }
 
 -- its text behind theirs

@@ -4,7 +4,8 @@ use Rattle.std.proofs.lemmas.List.{length-replicate}
 use Rattle.nor_cell.specs.Chip.{ChipState, Mode, Array, Fault, NoFault}
 use Rattle.nor_cell.specs.Power.{locks_after}
 use Rattle.nor_cell.specs.Ranges.{IsChip}
-use Rattle.nor_cell.specs.Resting.{IsResting, can_reset, reset}
+use Rattle.nor_cell.specs.Between.{IsIdle, reset}
+use Rattle.nor_cell.proofs.Between.{rests_idle}
 use Rattle.nor_cell.specs.Table.{field_8, set_of, has_locks}
 use Rattle.nor_cell.specs.declared.device.Set.{Set}
 use Rattle.nor_cell.specs.declared.device.Set.TheVariants.{Intel, Amd}
@@ -17,19 +18,19 @@ use Rattle.nor_lane.specs.Candidates.{wiring}
 use Rattle.nor_query.specs.Checks.{first_error}
 use Rattle.nor_query.specs.Derived.{table_blocks}
 use Rattle.nor_query.proofs.Passing.{passes}
+use Rattle.nor_query.proofs.Tables.{named_same, size_same, locks_same, blocks_same}
 use Rattle.nor_probe.specs.Asking.{Resets}
 use Rattle.nor_probe.specs.Probed.{IsFoundOn}
 use Rattle.nor_probe.specs.Tables.{table_read, first_difference}
 use Rattle.nor_probe.specs.WellWired.{IsAsItsTable, shown_table}
 use Rattle.nor_probe.specs.declared.probing.Found.{Found}
+use Rattle.nor_probe.proofs.OneTable.{shown_later, table_shown, one_table}
 use Rattle.nor_probe.proofs.OwnWiring.{ShowQry, own_first}
 use Rattle.nor_bank.specs.Stands.{IsQuiet, CanStart}
-use Rattle.nor_bank.proofs.Tables.{shown_later, named_same, size_same, locks_same, blocks_same}
 use Rattle.nor_image.specs.Image.{IsImageOf, kept_locks, locks_of, machine_of, record_place, table_in}
 use Rattle.nor_image.specs.Written.{bank_set}
 use Rattle.nor_image.proofs.Sizes.{size_of_table}
 use Rattle.nor_run.specs.Scripts.{IsJustPowered, IsJustLoaded, ShowsQry}
-use Rattle.nor_run.proofs.OneTable.{own_table, one_table}
 
 -- ---- locks after power-on
 
@@ -58,20 +59,8 @@ locks_alike Amd t u xs ys same count agree = by_test (has_locks u) (has_locks t)
 
 -- ---- at rest
 
-array_resets : (set : Set) (mode : Mode) (fault : Fault) → mode ≡ Array → fault ≡ NoFault → can_reset set mode fault ≡ true
-array_resets set mode fault shown well = (λ i. can_reset set (shown i) (well i)) ∙ by_set set
-  where
-    by_set : (set : Set) → can_reset set Array NoFault ≡ true
-    by_set Intel = refl
-    by_set Amd = refl
-
-pub quiet_rests : (s : ChipState) → IsQuiet s → IsResting s
-quiet_rests s quiet = record {
-  step = quiet.shown.step;
-  job = quiet.shown.job;
-  held = quiet.held;
-  resets = array_resets s.part.set s.mode s.fault quiet.shown.mode quiet.shown.fault;
-}
+pub quiet_rests : (s : ChipState) → IsQuiet s → IsIdle s
+quiet_rests s quiet = rests_idle s quiet.shown quiet.held
 
 -- the reset codes change nothing of it
 pub quiet_reset : (s : ChipState) → IsQuiet s → reset s ≡ s
@@ -105,7 +94,7 @@ module _ (width : ℕ) (bus : BusState) (loaded : IsJustLoaded width bus) (range
   first = shown_table (lane bus 0)
 
   read : table_read found.geometry bus.lanes 0 ≡ shown_table (lane bus 0)
-  read = ap (λ (g : Geometry). table_read g bus.lanes 0) own_found ∙ own_table loaded.device bus.lanes 0 show some (ranges 0 some).table_size
+  read = ap (λ (g : Geometry). table_read g bus.lanes 0) own_found ∙ table_shown loaded.device bus.lanes 0 show some (ranges 0 some).table_size
 
   passed : first_error (shown_table (lane bus 0)) ≡ None
   passed = ap (λ (t : List ℕ). first_error t) (sym read) ∙ is.says.stands.checks

@@ -3,5 +3,4 @@ pub mod Chips
 pub mod FileSizes
 pub mod Growing
 pub mod JustLoaded
-pub mod OneTable
 pub mod Reporting

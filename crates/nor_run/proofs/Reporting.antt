@@ -5,6 +5,7 @@ use Rattle.nor_io.specs.Files.{SinkState, Appends, AppendsPart}
 use Rattle.nor_io.specs.declared.sink.SinkError.{SinkError}
 use Rattle.nor_io.specs.declared.sink.SinkError.TheVariants.{Fault, NoMemory}
 use Rattle.nor_io.proofs.Pieces.{Appends-append, AppendsPart-append, AppendsPart-more}
+use Rattle.nor_cell.proofs.Logic.{both_pass}
 use Rattle.nor_cell.specs.Chip.{ChipState}
 use Rattle.nor_cell.specs.Ranges.{IsChip}
 use Rattle.nor_cell.specs.declared.geometry.Geometry.{Geometry}
@@ -12,7 +13,7 @@ use Rattle.nor_bus.specs.Bus.{BusState, lane, chip_at, bank_byte, bank_bytes, ba
 use Rattle.nor_bus.specs.Cycles.{KeepsLanes}
 use Rattle.nor_bus.specs.Driven.{AllLanes, EachLane, Lost, Counted}
 use Rattle.nor_bus.proofs.Driving.{keeps_then, still_none, some_lane}
-use Rattle.nor_cell.specs.Resting.{IsResting}
+use Rattle.nor_cell.specs.Between.{IsIdle}
 use Rattle.nor_lane.specs.Candidates.{wiring}
 use Rattle.nor_probe.specs.Asking.{Resets}
 use Rattle.nor_probe.specs.declared.error.ProbeError.{ProbeError}
@@ -38,7 +39,7 @@ use Rattle.nor_image.specs.Loaded.{bus_of, loaded_width}
 use Rattle.nor_image.specs.declared.loaded.Loaded.{Loaded}
 use Rattle.nor_image.specs.Written.{file_of, Stores}
 use Rattle.nor_cell.specs.Power.{powered}
-use Rattle.nor_run.specs.Built.{is_sound, is_built_bank}
+use Rattle.nor_run.specs.Built.{is_faultless, is_built_bank}
 use Rattle.nor_bank.specs.Work.{CanCall, KeepsBank}
 use Rattle.nor_run.specs.Running.{IsCount, IsHistoryOf, RunsWhole, RunsPart, RunsLines, EndsLines, ReportsWhole, ReportsPart, ReportsLines, counters_of}
 use Rattle.nor_run.specs.Scripts.{IsJustLoaded, IsLoaded, HasRoom, ShowsQry, RunsImage, started, opening_of, HoldsBytes, RunsLegally, EndsRun, Reports}
@@ -152,10 +153,6 @@ opens width bus b is =
 
 -- ---- what can be run
 
-and_parts : (x y : Bool) → (x && y) ≡ true → (x ≡ true) × (y ≡ true)
-and_parts true y is = (refl, is)
-and_parts false y is = absurd cc
-
 no_weak : (xs : List ℕ) → (length xs == 0) ≡ true → xs ≡ []
 no_weak [] is = refl
 no_weak (x ∷ xs) is = absurd (not_zero (length xs) is)
@@ -163,13 +160,13 @@ no_weak (x ∷ xs) is = absurd (not_zero (length xs) is)
     not_zero : (n : ℕ) → (suc n == 0) ≡ true → ⊥
     not_zero n is = grind (arith, is)
 
-chip_sound : (s : ChipState) → is_sound s ≡ true → IsSound s
-chip_sound s is = no_weak s.part.weak (and_parts (length s.part.weak == 0) (not s.part.stuck) is).0
+chip_sound : (s : ChipState) → is_faultless s ≡ true → IsSound s
+chip_sound s is = no_weak s.part.weak (both_pass (length s.part.weak == 0) (not s.part.stuck) is).0
 
-all_sound : (chips : List ChipState) → list_all is_sound chips ≡ true → (c : ℕ) → c < length chips → IsSound (chip_at chips c)
+all_sound : (chips : List ChipState) → list_all is_faultless chips ≡ true → (c : ℕ) → c < length chips → IsSound (chip_at chips c)
 all_sound [] all c below = absurd (omega (arith, below))
-all_sound (s ∷ chips) all zero below = chip_sound s (and_parts (is_sound s) (list_all is_sound chips) all).0
-all_sound (s ∷ chips) all (suc c) below = all_sound chips (and_parts (is_sound s) (list_all is_sound chips) all).1 c (omega (arith, below))
+all_sound (s ∷ chips) all zero below = chip_sound s (both_pass (is_faultless s) (list_all is_faultless chips) all).0
+all_sound (s ∷ chips) all (suc c) below = all_sound chips (both_pass (is_faultless s) (list_all is_faultless chips) all).1 c (omega (arith, below))
 
 pub can_run : (width : ℕ) (bus : BusState) (b : BankState) → IsStarted width bus b → is_built_bank bus.lanes ≡ true → locks_of b.found.query.extended ≡ false → CanCall b (opening_array b)
 can_run width bus b is built none =
@@ -295,7 +292,7 @@ starts_so width bus b loaded ranges qry found fresh resets counted stands = reco
 }
 
 -- each chip that was just loaded rests
-pub all_rest : (width : ℕ) (bus : BusState) → IsJustLoaded width bus → AllLanes IsResting bus
+pub all_rest : (width : ℕ) (bus : BusState) → IsJustLoaded width bus → AllLanes IsIdle bus
 all_rest width bus loaded c below = quiet_rests (lane bus c) (loaded.chips c below).quiet
 
 -- its power isn't lost
@@ -303,7 +300,7 @@ pub never_lost : (width : ℕ) (bus new : BusState) → IsJustLoaded width bus �
 never_lost width bus new loaded lost = lost.was_armed loaded.fresh.power loaded.fresh.armed
 
 pub refused_as : (width : ℕ) (bus new : BusState) (error : ProbeError) → IsJustLoaded width bus
-    → (error ≢ LostPower → AllLanes IsResting bus → refusal width bus.lanes ≡ Some error) → (error ≡ LostPower → Lost 524 bus new) → refusal width bus.lanes ≡ Some error
+    → (error ≢ LostPower → AllLanes IsIdle bus → refusal width bus.lanes ≡ Some error) → (error ≡ LostPower → Lost 524 bus new) → refusal width bus.lanes ≡ Some error
 refused_as width bus new error loaded refused lost = refused (λ is. never_lost width bus new loaded (lost is)) (all_rest width bus loaded)
 
 -- ---- the file of the bank

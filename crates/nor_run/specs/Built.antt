@@ -31,9 +31,9 @@ abbrev pub are_built : List Line → Bool
 are_built lines = list_all (λ line. is_built_word line.word) lines
 
 -- the chip has no weak place, and ends its work
-abbrev pub is_sound : ChipState → Bool
-is_sound s = (length s.part.weak == 0) && not s.part.stuck
+abbrev pub is_faultless : ChipState → Bool
+is_faultless s = (length s.part.weak == 0) && not s.part.stuck
 
 -- No chip has a weak place, and no lane is stuck.
 abbrev pub is_built_bank : List ChipState → Bool
-is_built_bank chips = list_all is_sound chips
+is_built_bank chips = list_all is_faultless chips

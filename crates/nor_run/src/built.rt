@@ -4,7 +4,7 @@ ghost use Rattle.std.specs.List.{list_all};
 ghost use Rattle.nor_cell.specs.Ranges.{IsChip};
 ghost use Rattle.nor_bus.specs.Driven.{AllLanes};
 ghost use Rattle.nor_image.specs.Loaded.{bus_of};
-ghost use Rattle.nor_run.specs.Built.{is_built_word as is_word_built, are_built as all_are_built, is_sound as is_chip_sound, is_built_bank};
+ghost use Rattle.nor_run.specs.Built.{is_built_word, are_built, is_faultless, is_built_bank};
 
 use crate::counters::lanes_of;
 use nor_array::Op;
@@ -15,7 +15,7 @@ use nor_script::{Line, Word};
 use nor_word::BusWord;
 
 fn is_built_word(word: &Word) -> bool
-    ensures { result ≡ is_word_built word.now }
+    ensures { result ≡ is_built_word word.now }
 {
     match word {
         Word::Call(Op::Read { .. } | Op::Program { .. }) => true,
@@ -25,14 +25,14 @@ fn is_built_word(word: &Word) -> bool
 
 /// Whether every line reads or programs: today no other call is built.
 pub fn are_built(lines: &[Line]) -> bool
-    ensures { result ≡ all_are_built lines.now }
+    ensures { result ≡ are_built lines.now }
 {
     lines.iter().all(|line| is_built_word(&line.word))
 }
 
 // Whether the chip has no weak place and ends its work.
-fn is_sound<C: Chip>(chip: &C) -> bool
-    ensures sound { result ≡ is_chip_sound (C.state chip.now) }
+fn is_faultless<C: Chip>(chip: &C) -> bool
+    ensures sound { result ≡ is_faultless (C.state chip.now) }
     ensures ranges { IsChip (C.state chip.now) }
 {
     let cells = chip.cells();
@@ -52,7 +52,7 @@ pub fn is_built_for<W: BusWord, C: Chip + Drop>(bank: &SimBank<W, C>) -> bool
 {
     let mut sound = true;
     for lane in 0..lanes_of(bank) {
-        sound = both(sound, is_sound(bank.chip(lane)));
+        sound = both(sound, is_faultless(bank.chip(lane)));
     }
     sound
 }

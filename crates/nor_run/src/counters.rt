@@ -1,34 +1,23 @@
 //! The chips of a simulated bank.
 ghost use Rattle.std.specs.Prelude.{◌≡◌, ◌<◌, ◌≤◌};
-ghost use Rattle.nor_bus.specs.Bus.{IsWired, lanes_of as lanes_in, lane as lane_state};
+ghost use Rattle.nor_bus.specs.Bus.{lanes_of};
 ghost use Rattle.nor_io.specs.Puts.{PutsText};
 ghost use Rattle.nor_script.specs.Report.{totals_text};
 ghost use Rattle.nor_run.specs.Running.{counters_of};
 
-use nor_bus::{Bus, SimBank, lane_bytes};
-use nor_cell::{Chip, Device};
+use nor_bus::SimBank;
+use nor_cell::Chip;
 use nor_io::{Sink, SinkError};
 use nor_script::put_totals;
 use nor_word::BusWord;
 
-// The device of all its chips.
-fn device_of<W: BusWord, C: Chip + Drop>(bank: &SimBank<W, C>) -> Device
-    requires { 0 < lanes_in bank.now }
-    ensures { result ≡ (lane_state bank.now 0).part.device }
-{
-    bank.chip(0).cells().device
-}
-
-/// How many lanes the bank has: as many as fill the bus.
+/// How many lanes the bank has.
 pub fn lanes_of<W: BusWord, C: Chip + Drop>(bank: &SimBank<W, C>) -> u8
-    ensures value { result ≡ lanes_in bank.now }
+    ensures value { result ≡ lanes_of bank.now }
     ensures some { 0 < result }
     ensures few { result ≤ 4 }
-    ensures wired { IsWired W.WIDTH bank.now }
 {
-    // Every bus says that its chips fill its word.
-    let _ = bank.units();
-    W::WIDTH / lane_bytes(device_of(bank))
+    bank.chips().len() as u8
 }
 
 // How often an erase was suspended on a chip, and how many erases there were.

@@ -6,7 +6,7 @@ ghost use Rattle.nor_io.specs.declared.sink.SinkError.TheVariants.{Fault};
 ghost use Rattle.nor_script.specs.Report.{entry_line};
 ghost use Rattle.nor_run.specs.Built.{is_built_call, is_built_word, are_built};
 ghost use Rattle.nor_bank.specs.Work.{CanCall, KeepsBank};
-ghost use Rattle.nor_run.specs.Running.{PutsReply, RunsCall, RunsWord, RunsWhole, RunsPart, is_halt as halts};
+ghost use Rattle.nor_run.specs.Running.{PutsReply, RunsCall, RunsWord, RunsWhole, RunsPart, is_halt};
 
 use nor_array::{Op, Reply};
 use nor_bank::{Bank, MAX_LEN};
@@ -121,7 +121,7 @@ fn run_call<W: BusWord, B: Bus<W>, K: Sink>(
 }
 
 fn is_halt(reply: Reply) -> bool
-    ensures { result ≡ halts reply }
+    ensures { result ≡ is_halt reply }
 {
     match reply {
         Reply::Halted(_) => true,
@@ -132,7 +132,7 @@ fn is_halt(reply: Reply) -> bool
 /// One entry more, with this reply.
 pub fn ran_on(ran: Ran, reply: Reply) -> Ran
     requires { ran.entries + 1 < 2 ^ 64 }
-    ensures { result ≡ record { entries = ran.entries + 1; halted = ran.halted || halts reply } }
+    ensures { result ≡ record { entries = ran.entries + 1; halted = ran.halted || is_halt reply } }
 {
     Ran {
         entries: ran.entries + 1,

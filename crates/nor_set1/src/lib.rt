@@ -6,14 +6,17 @@
 #![tactic(auto)]
 
 ghost use Rattle.std.specs.Prelude.{◌≡◌, ◌+◌, IsTrue, IfOk, IfErr, OnOk, OnErr};
+ghost use Rattle.nor_cell.specs.Between.{AtRest};
 ghost use Rattle.nor_cell.specs.Wiring.{is_wiring};
 ghost use Rattle.nor_cell.specs.declared.device.Set.TheVariants.{Intel};
 ghost use Rattle.nor_bus.specs.Driven.{Lost, EachLane, Reaches, Counted, Asks, EachPart};
 ghost use Rattle.nor_poll.specs.Codes.{cycle_count};
-ghost use Rattle.nor_poll.specs.Erase.{BeginsErase, LosesBegin, LooksAll, LosesLook, look_reads};
-ghost use Rattle.nor_poll.specs.Rest.{Settles, LosesNone};
-ghost use Rattle.nor_poll.specs.Resume.{ResumesAll, LosesResume};
+ghost use Rattle.nor_poll.specs.Erase.{TakesErase, TakesLook, BeginsErase, ChangesWithinErase, LooksAll, look_reads};
+ghost use Rattle.nor_poll.specs.Rest.{Settles};
+ghost use Rattle.nor_poll.specs.Losing.{LosesNone};
+ghost use Rattle.nor_poll.specs.Resume.{TakesResume, ResumesAll};
 ghost use Rattle.nor_poll.specs.Suspend.{SuspendsAll, SuspendHalts};
+ghost use Rattle.nor_poll.specs.UnderErase.{EachUnder};
 ghost use Rattle.nor_poll.specs.Word.{ProgramsWord, AreBroken, IsPrompt, WordHalts, word_most};
 ghost use Rattle.nor_poll.specs.declared.codes.Command.TheVariants.{ClearErrors, EraseBlock, ShowStatus};
 
@@ -48,7 +51,7 @@ pub fn settle<W: BusWord, B: Bus<W>>(bus: &mut B, g: Geometry, lanes: Lanes) -> 
     ensures settles { OnOk result (Reaches W.WIDTH g 0 (B.state bus.old)
         → EachLane (Settles Intel) (B.state bus.old) (B.state bus.new)) }
     ensures loses { OnErr result (Reaches W.WIDTH g 0 (B.state bus.old)
-        → EachLane (LosesNone Intel) (B.state bus.old) (B.state bus.new)) }
+        → EachLane (LosesNone (AtRest Intel)) (B.state bus.old) (B.state bus.new)) }
     ensures cycles { Asks (cycle_count Intel ClearErrors) result (B.state bus.old) (B.state bus.new) }
 {
     nor_poll::settle::<W, B>(Set::Intel, bus, g, lanes)
@@ -59,7 +62,7 @@ pub fn erase_start<W: BusWord, B: Bus<W>>(bus: &mut B, g: Geometry, at: u32) -> 
     ensures begins { OnOk result (Reaches W.WIDTH g at (B.state bus.old)
         → EachLane (BeginsErase Intel at) (B.state bus.old) (B.state bus.new)) }
     ensures loses { OnErr result (Reaches W.WIDTH g at (B.state bus.old)
-        → EachLane (LosesBegin Intel at) (B.state bus.old) (B.state bus.new)) }
+        → EachLane (LosesNone (TakesErase Intel at)) (B.state bus.old) (B.state bus.new)) }
     ensures cycles { Asks (cycle_count Intel EraseBlock) result (B.state bus.old) (B.state bus.new) }
 {
     nor_poll::erase_start::<W, B>(Set::Intel, bus, g, at)
@@ -75,7 +78,7 @@ pub fn erase_look<W: BusWord, B: Bus<W>>(
     requires wiring { IsTrue (is_wiring W.WIDTH g.lanes g.device) }
     ensures looks { IfOk result (LooksAll Intel W.WIDTH g at lanes
         (B.state bus.old) (B.state bus.new)) }
-    ensures loses { OnErr result (LosesLook Intel W.WIDTH g at lanes
+    ensures loses { OnErr result (EachUnder (TakesLook Intel) ChangesWithinErase W.WIDTH g at lanes
         (B.state bus.old) (B.state bus.new)) }
     ensures lost { OnErr result (Lost (cycle_count Intel ShowStatus + look_reads Intel)
         (B.state bus.old) (B.state bus.new)) }
@@ -109,7 +112,7 @@ pub fn resume<W: BusWord, B: Bus<W>>(
     requires wiring { IsTrue (is_wiring W.WIDTH g.lanes g.device) }
     ensures resumes { IfOk result (ResumesAll Intel W.WIDTH g at lanes
         (B.state bus.old) (B.state bus.new)) }
-    ensures loses { OnErr result (LosesResume Intel W.WIDTH g at lanes
+    ensures loses { OnErr result (EachUnder (TakesResume Intel) ChangesWithinErase W.WIDTH g at lanes
         (B.state bus.old) (B.state bus.new)) }
     ensures cycles { Asks 1 result (B.state bus.old) (B.state bus.new) }
 {

@@ -6,16 +6,19 @@
 #![tactic(auto)]
 
 ghost use Rattle.std.specs.Prelude.{◌≡◌, ◌+◌, IsTrue, IfOk, IfErr, OnOk, OnErr};
+ghost use Rattle.nor_cell.specs.Between.{AtRest};
 ghost use Rattle.nor_cell.specs.Wiring.{is_wiring};
 ghost use Rattle.nor_cell.specs.declared.device.Set.TheVariants.{Amd};
 ghost use Rattle.nor_bus.specs.Driven.{Lost, EachLane, Reaches, Counted, Asks, EachPart};
 ghost use Rattle.nor_poll.specs.Codes.{cycle_count};
-ghost use Rattle.nor_poll.specs.Erase.{BeginsErase, LosesBegin, LooksAll, LosesLook, look_reads};
-ghost use Rattle.nor_poll.specs.Rest.{Settles, LosesNone};
-ghost use Rattle.nor_poll.specs.Resume.{ResumesAll, LosesResume};
+ghost use Rattle.nor_poll.specs.Erase.{TakesErase, TakesEraseAll, TakesLook, BeginsErase, BeginsEraseAll, ChangesWithinErase, LooksAll, look_reads};
+ghost use Rattle.nor_poll.specs.Rest.{Settles};
+ghost use Rattle.nor_poll.specs.Losing.{LosesNone};
+ghost use Rattle.nor_poll.specs.Resume.{TakesResume, ResumesAll};
 ghost use Rattle.nor_poll.specs.Suspend.{SuspendsAll, SuspendHalts};
+ghost use Rattle.nor_poll.specs.UnderErase.{EachUnder};
 ghost use Rattle.nor_poll.specs.Word.{ProgramsWord, AreBroken, IsPrompt, WordHalts, word_most};
-ghost use Rattle.nor_poll.specs.declared.codes.Command.TheVariants.{ClearErrors, EraseBlock, ShowStatus};
+ghost use Rattle.nor_poll.specs.declared.codes.Command.TheVariants.{ClearErrors, EraseBlock, EraseAll, ShowStatus};
 
 use nor_bus::{Bus, Off};
 use nor_cell::{Geometry, Set};
@@ -48,7 +51,7 @@ pub fn settle<W: BusWord, B: Bus<W>>(bus: &mut B, g: Geometry, lanes: Lanes) -> 
     ensures settles { OnOk result (Reaches W.WIDTH g 0 (B.state bus.old)
         → EachLane (Settles Amd) (B.state bus.old) (B.state bus.new)) }
     ensures loses { OnErr result (Reaches W.WIDTH g 0 (B.state bus.old)
-        → EachLane (LosesNone Amd) (B.state bus.old) (B.state bus.new)) }
+        → EachLane (LosesNone (AtRest Amd)) (B.state bus.old) (B.state bus.new)) }
     ensures cycles { Asks (cycle_count Amd ClearErrors) result (B.state bus.old) (B.state bus.new) }
 {
     nor_poll::settle::<W, B>(Set::Amd, bus, g, lanes)
@@ -59,10 +62,21 @@ pub fn erase_start<W: BusWord, B: Bus<W>>(bus: &mut B, g: Geometry, at: u32) -> 
     ensures begins { OnOk result (Reaches W.WIDTH g at (B.state bus.old)
         → EachLane (BeginsErase Amd at) (B.state bus.old) (B.state bus.new)) }
     ensures loses { OnErr result (Reaches W.WIDTH g at (B.state bus.old)
-        → EachLane (LosesBegin Amd at) (B.state bus.old) (B.state bus.new)) }
+        → EachLane (LosesNone (TakesErase Amd at)) (B.state bus.old) (B.state bus.new)) }
     ensures cycles { Asks (cycle_count Amd EraseBlock) result (B.state bus.old) (B.state bus.new) }
 {
     nor_poll::erase_start::<W, B>(Set::Amd, bus, g, at)
+}
+
+/// Begins to erase all blocks of every lane at once: `erase_all_start` of nor_poll.
+pub fn erase_all_start<W: BusWord, B: Bus<W>>(bus: &mut B, g: Geometry) -> Result<(), Off>
+    ensures begins { OnOk result (Reaches W.WIDTH g 0 (B.state bus.old)
+        → EachLane BeginsEraseAll (B.state bus.old) (B.state bus.new)) }
+    ensures loses { OnErr result (Reaches W.WIDTH g 0 (B.state bus.old)
+        → EachLane (LosesNone TakesEraseAll) (B.state bus.old) (B.state bus.new)) }
+    ensures cycles { Asks (cycle_count Amd EraseAll) result (B.state bus.old) (B.state bus.new) }
+{
+    nor_poll::erase_all_start::<W, B>(bus, g)
 }
 
 /// Looks at an erase under way: where each lane is after one poll: `erase_look` of nor_poll.
@@ -75,7 +89,7 @@ pub fn erase_look<W: BusWord, B: Bus<W>>(
     requires wiring { IsTrue (is_wiring W.WIDTH g.lanes g.device) }
     ensures looks { IfOk result (LooksAll Amd W.WIDTH g at lanes
         (B.state bus.old) (B.state bus.new)) }
-    ensures loses { OnErr result (LosesLook Amd W.WIDTH g at lanes
+    ensures loses { OnErr result (EachUnder (TakesLook Amd) ChangesWithinErase W.WIDTH g at lanes
         (B.state bus.old) (B.state bus.new)) }
     ensures lost { OnErr result (Lost (cycle_count Amd ShowStatus + look_reads Amd)
         (B.state bus.old) (B.state bus.new)) }
@@ -109,7 +123,7 @@ pub fn resume<W: BusWord, B: Bus<W>>(
     requires wiring { IsTrue (is_wiring W.WIDTH g.lanes g.device) }
     ensures resumes { IfOk result (ResumesAll Amd W.WIDTH g at lanes
         (B.state bus.old) (B.state bus.new)) }
-    ensures loses { OnErr result (LosesResume Amd W.WIDTH g at lanes
+    ensures loses { OnErr result (EachUnder (TakesResume Amd) ChangesWithinErase W.WIDTH g at lanes
         (B.state bus.old) (B.state bus.new)) }
     ensures cycles { Asks 1 result (B.state bus.old) (B.state bus.new) }
 {

@@ -2,7 +2,7 @@
 use Rattle.std.specs.Prelude.{◌≡◌, ◌≤◌, ◌+◌, ℕ, true, None, List, Option, Some}
 use Rattle.nor_cell.specs.Bits.{AreBytes}
 use Rattle.nor_cell.specs.Chip.{ChipState}
-use Rattle.nor_cell.specs.Resting.{IsResting}
+use Rattle.nor_cell.specs.Between.{IsIdle}
 use Rattle.nor_cell.specs.declared.device.Device.{Device}
 use Rattle.nor_bus.specs.Bus.{BusState, IsBank, bank_bytes, bank_size}
 use Rattle.nor_bus.specs.Driven.{AllLanes}
@@ -23,7 +23,7 @@ pub record IsPowered (bus : BusState) : Type 0 where
 
 -- its chips rest, and their cells are bytes
 pub record IsIdleChip (s : ChipState) : Type 0 where
-  pub resting : IsResting s
+  pub resting : IsIdle s
   pub bytes : AreBytes s.cells
 
 -- it can be read

@@ -3,7 +3,7 @@ ghost use Rattle.std.specs.Prelude.{◌≡◌, ◌+◌, ◌*◌, ◌<◌, IsTrue
 ghost use Rattle.nor_cell.specs.Ranges.{are_blocks};
 
 use super::Cycle::{Erase, Program, Read, Unlocked, Write};
-use super::{run, table_of};
+use super::{Cycle, run, table_of};
 use crate::Amd;
 use nor_cell::{CellParts, Device, Span, make_cells};
 use std::alloc::{AllocError, Global};
@@ -79,40 +79,38 @@ fn make_boot_chip(alloc: Global) -> Result<Amd, AllocError> {
     Ok(Amd::new(cells))
 }
 
+const CYCLES: [Cycle; 24] = [
+    // the first of the small blocks is locked
+    Unlocked(0x555, 0xE0),
+    Write(0, 0xA0),
+    Write(0x620, 0x00),
+    Read(0x5FF, 1),
+    Read(0x600, 0),
+    Read(0x63F, 0),
+    Read(0x640, 1),
+    Write(0, 0x90),
+    Write(0, 0x00),
+    // the second one is erased, and the last stays
+    Program(0x640, 0x1234),
+    Read(0, 0xC0),
+    Read(0, 0x80),
+    Read(0x640, 0x1234),
+    Program(0x7FF, 0x5678),
+    Read(0, 0xC0),
+    Read(0, 0x80),
+    Read(0x7FF, 0x5678),
+    Erase(0x67F),
+    Read(0, 0x4C),
+    Read(0, 0x08),
+    Read(0, 0x4C),
+    Read(0, 0x08),
+    Read(0x640, 0xFFFF),
+    Read(0x7FF, 0x5678),
+];
+
 #[test]
 fn each_block_by_its_own_size(rt: HostRuntime) -> Result<(), Fail> {
     let mut chip = make_boot_chip(rt.alloc())?;
-    run(
-        &rt,
-        &mut chip,
-        &[
-            // the first of the small blocks is locked
-            Unlocked(0x555, 0xE0),
-            Write(0, 0xA0),
-            Write(0x620, 0x00),
-            Read(0x5FF, 1),
-            Read(0x600, 0),
-            Read(0x63F, 0),
-            Read(0x640, 1),
-            Write(0, 0x90),
-            Write(0, 0x00),
-            // the second one is erased, and the last stays
-            Program(0x640, 0x1234),
-            Read(0, 0xC0),
-            Read(0, 0x80),
-            Read(0x640, 0x1234),
-            Program(0x7FF, 0x5678),
-            Read(0, 0xC0),
-            Read(0, 0x80),
-            Read(0x7FF, 0x5678),
-            Erase(0x67F),
-            Read(0, 0x4C),
-            Read(0, 0x08),
-            Read(0, 0x4C),
-            Read(0, 0x08),
-            Read(0x640, 0xFFFF),
-            Read(0x7FF, 0x5678),
-        ],
-    );
+    run(&rt, "boot", &mut chip, &CYCLES);
     Ok(())
 }

@@ -1,8 +1,7 @@
 //! Locks in a file of version 2.
-use super::{Lane, RISES, bad, bank_file, edited, load, refusal, refuses_each, short};
-use crate::{ImageError, write_image};
+use super::{Edit, Lane, RISES, bank_file, edited, is_its_own, refusal, refuses_each, saved};
+use crate::ImageError;
 use std::alloc::{AllocError, Global};
-use std::process::Abort;
 use std::test::Fail;
 
 // What the extended table of set 0002 says that offers locks.
@@ -47,89 +46,63 @@ fn with_locks(alloc: Global, file: &[u8], locks: [u8; 8]) -> Result<Vec<u8>, All
     Ok(two)
 }
 
+// A lock byte is 0 or 1, and there is one for each block.
+const OF_ONE_LANE: [Edit; 7] = [
+    (548, 9, Some(548)),
+    (548, 0, Some(548)),
+    (551, 1, Some(548)),
+    (552, 1, None),
+    (552, 2, Some(552)),
+    (559, 0xFF, Some(559)),
+    (560, 0xFF, None),
+];
+
 #[test]
-fn a_lock_byte_is_0_or_1(rt: HostRuntime) -> Result<(), Fail> {
+fn locks_are_read_and_written(rt: HostRuntime) -> Result<(), Fail> {
     let one = amd_file(rt.alloc(), 1, 2, &[RISES])?;
+    let none = with_locks(rt.alloc(), &one, [0; 8])?;
+    assert!(rt; saved(&rt, rt.alloc(), &one, 4)?.as_slice() == none.as_slice());
     let two = with_locks(rt.alloc(), &one, [0, 0, 1, 0, 0, 0, 0, 1])?;
     assert_eq!(rt; two.len(), 8752);
-    refuses_each(
-        &rt,
-        rt.alloc(),
-        &two,
-        &[
-            (548, 9, bad(548)),
-            (548, 0, bad(548)),
-            (551, 1, bad(548)),
-            (552, 1, None),
-            (552, 2, bad(552)),
-            (559, 0xFF, bad(559)),
-            (560, 0xFF, None),
-        ],
-    )?;
-    for (len, at) in [(548, 548), (551, 551), (552, 552), (559, 559), (8751, 8751)] {
+    is_its_own(&rt, rt.alloc(), &two)?;
+    refuses_each(&rt, rt.alloc(), &two, &OF_ONE_LANE)?;
+    for len in [548, 551, 552, 559, 8751] {
         let part = two.get(..len).unwrap_or(&[]);
-        assert_eq!(rt; refusal(rt.alloc(), part), short(at));
+        let short = ImageError::Truncated { at: len as u32 };
+        assert_eq!(rt; refusal(rt.alloc(), part), Some(short));
     }
     // in version 1 the same bytes are cells, and twelve too many
     let as_one = edited(rt.alloc(), &two, 7, 0x31)?;
-    assert_eq!(rt;
-        refusal(rt.alloc(), &as_one),
-        Some(ImageError::Trailing { at: 8740 })
-    );
+    let trailing = ImageError::Trailing { at: 8740 };
+    assert_eq!(rt; refusal(rt.alloc(), &as_one), Some(trailing));
     Ok(())
 }
 
-// The file stands for a bank of set 0002, which is saved so.
-fn is_saved(rt: &impl Abort, alloc: Global, file: &[u8], saved: &[u8]) -> Result<(), Fail> {
-    let (bank, kind) = load(alloc, file)?;
-    assert_eq!(rt; kind, 4);
-    let written = write_image(alloc, &bank)?;
-    assert!(rt; written.as_slice() == saved);
-    Ok(())
-}
+// Lane 1 begins at 8752, and its locks at 9292.
+const OF_TWO_LANES: [Edit; 5] = [
+    (9288, 8, None),
+    (9288, 7, Some(9288)),
+    (9292, 1, Some(9292)),
+    (9293, 0, Some(9293)),
+    (552, 1, Some(9292)),
+];
 
-#[test]
-fn locks_of_set_0002_are_read_and_written(rt: HostRuntime) -> Result<(), Fail> {
-    let one = amd_file(rt.alloc(), 1, 2, &[RISES])?;
-    let none = with_locks(rt.alloc(), &one, [0; 8])?;
-    is_saved(&rt, rt.alloc(), &one, &none)?;
-    let two = with_locks(rt.alloc(), &one, [0, 0, 1, 0, 0, 0, 0, 1])?;
-    is_saved(&rt, rt.alloc(), &two, &two)
-}
+const WITHOUT_LOCKS_IN_LANE_1: [Edit; 4] = [
+    (552, 1, None),
+    (552, 2, Some(552)),
+    (9288, 0, None),
+    (9288, 8, Some(9288)),
+];
 
 #[test]
 fn lanes_agree_on_their_locks(rt: HostRuntime) -> Result<(), Fail> {
     let one = amd_file(rt.alloc(), 4, 1, &[RISES, RISES])?;
     let two = with_locks(rt.alloc(), &one, [0, 1, 0, 0, 0, 0, 0, 0])?;
-    // lane 1 begins at 8752, and its locks at 9292
-    refuses_each(
-        &rt,
-        rt.alloc(),
-        &two,
-        &[
-            (9288, 8, None),
-            (9288, 7, bad(9288)),
-            (9292, 1, bad(9292)),
-            (9293, 0, bad(9293)),
-            (552, 1, bad(9292)),
-        ],
-    )?;
+    refuses_each(&rt, rt.alloc(), &two, &OF_TWO_LANES)?;
     // a lane whose table offers no locks stores none, and agrees with each
     let without = edited(rt.alloc(), &one, 8760 + 0x3A, 0)?;
-    let (bank, kind) = load(rt.alloc(), &without)?;
-    assert_eq!(rt; kind, 6);
-    let saved = write_image(rt.alloc(), &bank)?;
+    let saved = saved(&rt, rt.alloc(), &without, 6)?;
     assert_eq!(rt; saved.len(), 17484);
-    refuses_each(
-        &rt,
-        rt.alloc(),
-        &saved,
-        &[
-            (552, 1, None),
-            (552, 2, bad(552)),
-            (9288, 0, None),
-            (9288, 8, bad(9288)),
-        ],
-    )?;
+    refuses_each(&rt, rt.alloc(), &saved, &WITHOUT_LOCKS_IN_LANE_1)?;
     Ok(())
 }

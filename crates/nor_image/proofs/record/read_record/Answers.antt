@@ -181,3 +181,9 @@ make_cells-requires-clause-locks c =
     let locks = c.in_ok-locks.ensures.1 ∙ ap (λ (n : ℕ). locks_from c.args.file.now first n) c.stored_count-count.ensures in
     (λ i. is_none_or_each (length (c.in_ok-blocks.ensures.blocks i)) (length (locks i)))
     ∙ stored_fit c.args.header.version c.machine_of-set.result c.in_ok-table.table c.args.file.now first
+
+pub locks_len-requires : goal.locks_len-requires
+locks_len-requires c =
+    let few = count_few c.args.header.version c.machine_of-set.result c.in_ok-table.table c.in_ok-blocks.blocks.items c.stored_count-count.result c.in_ok-size.size
+    c.stored_count-count.ensures c.in_ok-blocks.ensures.blocks c.in_ok-blocks.ensures.few c.in_ok-size.ensures.sized in
+    omega arith

@@ -3,10 +3,10 @@ use Rattle.nor_cell.specs.Bits.{unit_len}
 use Rattle.nor_word.specs.Word.{lane_of}
 use Rattle.nor_bus.specs.Bus.{lane, wide}
 use Rattle.nor_bus.specs.Driven.{Lost, EachLane}
-use Rattle.nor_bus.proofs.Driving.{own_kept, device_of}
+use Rattle.nor_bus.proofs.Driving.{own_kept, device_of, lane_kept}
 use Rattle.nor_poll.specs.Reads.{DarkensReading}
 use Rattle.nor_poll.proofs.Showing.{told_first, told_data, told_wide}
-use Rattle.nor_poll.proofs.Reading.{on_err, moved, read_then, lost_reading, dark_then}
+use Rattle.nor_poll.proofs.Reading.{on_err, read_then, lost_reading, dark_then}
 use Rattle.nor_poll.proofs.Telling.{lane_read, all_ready}
 use Rattle.nor_poll.proofs.data.data_poll.Goals as goal
 
@@ -45,7 +45,7 @@ returns-clause-told g c = λ own within k below.
     let new = g.B.Bus.state c.look-2.new.bus in
     let word = g.W.BusWord.bytes c.args.datum in
     let kept = c.in_ok-first.ensures.went.went.kept in
-    let there = moved old mid k kept.count below in
+    let there = lane_kept old mid k kept below in
     told_wide (unit_len c.args.g.device) (wide (lane old k)) at k word (lane old k) _ (lane new k) (device_of width c.args.g.device old k own.bank below)
     (told_data at (lane_of (unit_len c.args.g.device) word k) (lane old k) _ (lane mid k) _ (lane new k) _
     (lane_read width c.args.g old mid at k (g.W.BusWord.bytes c.in_ok-first.first) own below (c.in_ok-first.ensures.answers within k below))

@@ -4,8 +4,9 @@ use Rattle.nor_word.specs.Word.{lane_of}
 use Rattle.nor_bus.specs.Bus.{lane}
 use Rattle.nor_bus.specs.Driven.{spread}
 use Rattle.nor_bus.proofs.Driving.{few_lanes, device_of, part_reached}
-use Rattle.nor_poll.specs.Resume.{LosesResume, resume_code}
-use Rattle.nor_poll.specs.UnderErase.{state_at}
+use Rattle.nor_poll.specs.Resume.{TakesResume, resume_code}
+use Rattle.nor_poll.specs.Erase.{ChangesWithinErase}
+use Rattle.nor_poll.specs.UnderErase.{EachUnder, state_at}
 use Rattle.nor_poll.proofs.Reading.{on_err, darkens}
 use Rattle.nor_poll.proofs.ResumeLane.{resumes, loses_resume}
 use Rattle.nor_poll.proofs.resuming.resume.Goals as goal
@@ -14,7 +15,7 @@ pub returns-in_err-write_word-clause-loses : goal.returns-in_err-write_word-clau
 returns-in_err-write_word-clause-loses g c =
     let old = g.B.Bus.state c.args.bus.now in
     let new = g.B.Bus.state c.write_word.new.bus in
-    on_err c.from_residual.result (LosesResume c.args.set g.W.BusWord.WIDTH c.args.g c.args.at c.args.lanes old new) (λ reaches target k below takes.
+    on_err c.from_residual.result (EachUnder (TakesResume c.args.set) ChangesWithinErase g.W.BusWord.WIDTH c.args.g c.args.at c.args.lanes old new) (λ reaches target k below takes.
     loses_resume c.args.set target (state_at c.args.lanes k) (lane old k) (lane new k) takes (darkens old new c.in_err-write_word.ensures.fails k below))
 
 pub returns-clause-resumes : goal.returns-clause-resumes

@@ -3,12 +3,12 @@ use Rattle.nor_cell.specs.Bits.{unit_len}
 use Rattle.nor_word.specs.Word.{lane_of}
 use Rattle.nor_bus.specs.Bus.{lane}
 use Rattle.nor_bus.specs.Driven.{Lost, EachLane}
-use Rattle.nor_bus.proofs.Driving.{own_kept}
+use Rattle.nor_bus.proofs.Driving.{own_kept, lane_kept}
 use Rattle.nor_poll.specs.Reads.{DarkensReading}
 use Rattle.nor_poll.specs.Told.{seen_at}
 use Rattle.nor_poll.specs.declared.watch.Seen.TheVariants.{Working}
 use Rattle.nor_poll.proofs.Answering.{told_pair, told_over, over_works}
-use Rattle.nor_poll.proofs.Reading.{on_err, moved, read_then, lost_reading, dark_then}
+use Rattle.nor_poll.proofs.Reading.{on_err, read_then, lost_reading, dark_then}
 use Rattle.nor_poll.proofs.Telling.{lane_read}
 use Rattle.nor_poll.proofs.toggle.toggle_poll.Goals as goal
 
@@ -34,7 +34,7 @@ returns-then-not-just_ended-clause-told g c = λ own within k below.
     let mid = g.B.Bus.state c.look.new.bus in
     let new = g.B.Bus.state c.look-2.new.bus in
     let kept = c.in_ok-first.ensures.went.went.kept in
-    let there = moved old mid k kept.count below in
+    let there = lane_kept old mid k kept below in
     told_pair at (lane old k) _ (lane mid k) _ (lane new k) _ (lane_read width c.args.g old mid at k (g.W.BusWord.bytes c.in_ok-first.first) own below (c.in_ok-first.ensures.answers within k below))
     (lane_read width c.args.g mid new at k (g.W.BusWord.bytes c.in_ok-second.second) (own_kept width c.args.g old mid kept own) there
     (c.in_ok-second.ensures.answers (subst (λ (n : ℕ). at < n) (sym c.look.ensures.units) within) k there))
@@ -83,8 +83,8 @@ returns-clause-told g c = λ own within k below.
     let two = c.in_ok-second.ensures.went.went.kept in
     let own1 = own_kept width c.args.g old mid one own in
     let own2 = own_kept width c.args.g mid last two own1 in
-    let there = moved old mid k one.count below in
-    let here = moved mid last k two.count there in
+    let there = lane_kept old mid k one below in
+    let here = lane_kept mid last k two there in
     let lane_number = subst (λ (n : ℕ). k < n) own.count below in
     told_over at (lane old k) _ (lane mid k) _ (lane last k) _ (lane new k) _
     (lane_read width c.args.g old mid at k (g.W.BusWord.bytes c.in_ok-first.first) own below (c.in_ok-first.ensures.answers within k below))
@@ -121,7 +121,7 @@ returns-clause-late g c = λ own within shows.
     let k = some.0 in
     let kept = c.in_ok-first.ensures.went.went.kept in
     let below = subst (λ (n : ℕ). k < n) (sym own.count) some.1 in
-    let there = moved old mid k kept.count below in
+    let there = lane_kept old mid k kept below in
     inr (
       read_then 2 2 1 1 3 3 old last new (omega arith) (omega arith) two c.in_ok-third.ensures.went,
       record {

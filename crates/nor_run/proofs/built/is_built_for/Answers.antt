@@ -2,7 +2,7 @@ use Rattle.std.proofs.Common.{◌∙◌, ℕ, ap, subst, below_more, arith}
 use Rattle.nor_cell.specs.Chip.{ChipState}
 use Rattle.nor_cell.specs.Ranges.{IsChip}
 use Rattle.nor_bus.specs.Bus.{lane}
-use Rattle.nor_run.specs.Built.{is_sound}
+use Rattle.nor_run.specs.Built.{is_faultless}
 use Rattle.nor_run.proofs.Chips.{sound_more}
 use Rattle.nor_run.proofs.built.is_built_for.Goals as goal
 
@@ -10,7 +10,7 @@ pub loop-lane-preserved : goal.loop-lane-preserved
 loop-lane-preserved g c = record {
   sound =
       c.both-sound.ensures
-      ∙ sound_more c.args.bank.now.lanes c.loop-lane.lane c.loop-lane.sound c.is_sound.result (omega (arith, c.loop-lane-test.true, c.lanes_of-lane-end.ensures.value)) c.loop-lane.invariant.sound
-      (c.is_sound.ensures.sound ∙ ap (λ (s : ChipState). is_sound s) c.chip.ensures);
-  ranges = below_more (λ (k : ℕ). IsChip (lane c.args.bank.now k)) c.loop-lane.lane c.loop-lane.invariant.ranges (subst (λ (s : ChipState). IsChip s) c.chip.ensures c.is_sound.ensures.ranges);
+      ∙ sound_more c.args.bank.now.lanes c.loop-lane.lane c.loop-lane.sound c.is_faultless.result (omega (arith, c.loop-lane-test.true, c.lanes_of-lane-end.ensures.value)) c.loop-lane.invariant.sound
+      (c.is_faultless.ensures.sound ∙ ap (λ (s : ChipState). is_faultless s) c.chip.ensures);
+  ranges = below_more (λ (k : ℕ). IsChip (lane c.args.bank.now k)) c.loop-lane.lane c.loop-lane.invariant.ranges (subst (λ (s : ChipState). IsChip s) c.chip.ensures c.is_faultless.ensures.ranges);
 }

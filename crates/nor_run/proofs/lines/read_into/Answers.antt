@@ -1,7 +1,8 @@
+use Rattle.std.proofs.Common.{length}
 use Rattle.nor_run.proofs.Calling.{read_runs}
 use Rattle.nor_run.proofs.lines.read_into.Goals as goal
 
 pub returns-clause-runs : goal.returns-clause-runs
 returns-clause-runs g c = λ a can.
-    read_runs c.args.bank.now c.read-reply.new.self a c.args.caller c.args.at c.args.len c.args.position c.args.into.now c.read-reply.new.into c.read-reply.result _ _ c.put_reply.result can
-    c.requires c.read-reply.ensures.makes (c.read-reply.ensures.lasts can.closed a can.stands) c.put_reply.ensures.puts
+    read_runs c.args.bank.now c.read-reply.new.self a c.args.caller c.args.at c.args.len (length c.args.into.now) c.args.position c.read-reply.new.into c.read-reply.result _ _ c.put_reply.result can
+    c.requires c.read-reply.ensures.call c.put_reply.ensures.puts

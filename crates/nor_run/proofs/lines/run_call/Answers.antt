@@ -10,4 +10,4 @@ returns-in-Read-clause-runs g c = λ a can.
 pub returns-in-Program-clause-runs : goal.returns-in-Program-clause-runs
 returns-in-Program-clause-runs g c = λ a can.
     program_runs c.args.bank.now c.program-reply.new.self a c.args.caller c.in-Program.at c.args.position c.as_slice.result.now c.args.op.now c.program-reply.result _ _ c.put_reply.result
-    (c.in-Program.is ∙ ap (Program c.in-Program.at) (sym c.as_slice.ensures)) can c.program-reply.ensures.makes c.program-reply.ensures.lasts c.put_reply.ensures.puts
+    (c.in-Program.is ∙ ap (Program c.in-Program.at) (sym c.as_slice.ensures)) can c.program-reply.ensures.call c.put_reply.ensures.puts

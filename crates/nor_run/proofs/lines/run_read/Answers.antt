@@ -1,7 +1,8 @@
-use Rattle.nor_run.proofs.Calling.{refused_runs}
+use Rattle.std.proofs.Common.{[]}
+use Rattle.nor_run.proofs.Calling.{read_runs}
 use Rattle.nor_run.proofs.lines.run_read.Goals as goal
 
 pub returns-in-Some-clause-runs : goal.returns-in-Some-clause-runs
 returns-in-Some-clause-runs g c = λ a can.
-    refused_runs c.args.bank.now a c.args.caller c.args.at c.args.len c.from.result c.args.position c.in-Some.reply _ _ c.put_reply.result can
-    c.from.ensures c.in-Some.ensures.makes c.put_reply.ensures.puts
+    read_runs c.args.bank.now c.args.bank.now a c.args.caller c.args.at c.args.len c.from.result c.args.position [] c.in-Some.reply _ _ c.put_reply.result can
+    c.from.ensures (c.in-Some.ensures.call c.args.caller []) c.put_reply.ensures.puts

@@ -1,7 +1,7 @@
 use Rattle.std.proofs.Common.{◌≡◌, ◌+◌, ◌-◌, ◌*◌, ◌≤◌, ◌++◌, ℕ, List, sym, subst, ap, arith, ◌∙◌, length, true}
 use Rattle.nor_cell.specs.Bits.{unit_len, unit_bytes}
 use Rattle.nor_cell.specs.Chip.{ChipState, BufferData, BufferConfirm}
-use Rattle.nor_cell.specs.Intel.{first_of}
+use Rattle.nor_cell.specs.Loads.{first_of}
 use Rattle.nor_cell.specs.Machine.{machine_of, step_of, takes, loaded, StepFits, LoadFits}
 use Rattle.nor_cell.specs.declared.device.Device.{Device}
 use Rattle.nor_cell.specs.declared.state.NextStep.{NextStep}

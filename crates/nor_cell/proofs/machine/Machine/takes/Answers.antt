@@ -1,7 +1,7 @@
 use Rattle.std.proofs.Common.{◌≡◌, ◌+◌, ◌*◌, ◌/◌, ◌==◌, sym, ap, ◌∙◌, length, false}
 use Rattle.nor_cell.specs.Bits.{unit_len}
 use Rattle.nor_cell.specs.Chip.{ChipState, BufferData, block_of, place}
-use Rattle.nor_cell.specs.Intel.{room}
+use Rattle.nor_cell.specs.Loads.{room}
 use Rattle.nor_cell.specs.Machine.{step_of, takes}
 use Rattle.nor_cell.proofs.Loading.{takes_later}
 use Rattle.nor_cell.proofs.machine.Machine.takes.Goals as goal

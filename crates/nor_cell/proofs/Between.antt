@@ -1,13 +1,14 @@
 -- Cycles of a chip between two commands, of either set.
 use Rattle.std.proofs.Common.{◌≡◌, ◌%◌, ◌+◌, ℕ, List, refl, sym, ◌∙◌, ap, subst, true, false, Bool, not, ◌==◌, ◌||◌, ◌&&◌, if◌then◌else◌}
 use Rattle.std.specs.Prelude.{MatchBool}
-use Rattle.nor_cell.specs.Chip.{ChipState, Job, Idle, Mode, Array, Query, Ident, Status, Locks, Step, Rest, runs, is_held, Flags, Fault, NoFault, TimeFault, AbortFault, place}
+use Rattle.nor_cell.specs.Chip.{ChipState, Job, Idle, Program, Erase, Pausing, NotHeld, Mode, Array, Query, Ident, Status, Locks, Step, Rest, runs, is_held, Flags, Fault, NoFault, TimeFault, AbortFault, place, holds_at}
 use Rattle.nor_cell.specs.Look.{Look, Rests, look, look_at, looked, LooksTo, flags_with, fault_with, suspended}
 use Rattle.nor_cell.specs.Bits.{unit_at}
 use Rattle.nor_cell.specs.Steps.{Reads, reads_of, writes_of, written}
-use Rattle.nor_cell.specs.Intel.{in_held, Shows, ShowsMode, bit_if, query_at, commanded, steps}
-use Rattle.nor_cell.specs.Amd.{toggled, toggles_6, toggles_2, flipped, shown, shows_held, is_fault, is_time, is_erasing, fault_at, mode_at, working, fault_steps, mode_steps, array_steps, query_steps, aq}
-use Rattle.nor_cell.specs.Resting.{IsResting, IsShown, reset, can_reset}
+use Rattle.nor_cell.specs.Intel.{Shows, ShowsMode, commanded, steps}
+use Rattle.nor_cell.specs.Shown.{bit_if, query_at}
+use Rattle.nor_cell.specs.Amd.{toggled, toggles_6, toggles_2, flipped, shown, shows_held, is_fault, is_time, is_erasing, fault_at, mode_at, working, fault_steps, mode_steps, array_steps, query_steps, query_address}
+use Rattle.nor_cell.specs.Between.{Waits, AtRest, TakesCommands, IsIdle, IsShown, reset, can_reset}
 use Rattle.nor_cell.specs.declared.device.Device.{Device}
 use Rattle.nor_cell.specs.declared.device.Device.TheVariants.{X8, X16, X16Byte}
 use Rattle.nor_cell.specs.declared.device.Set.{Set}
@@ -18,13 +19,13 @@ use Rattle.nor_cell.specs.declared.device.Set.TheVariants.{Intel, Amd}
 rests : (s : ChipState) → s.job ≡ Idle → look s ≡ Rests
 rests s idle = ap (look_at s.part.stuck) idle
 
-no_flags : (set : Set) (flags : Flags) → flags_with set Idle flags ≡ flags
-no_flags Intel flags = refl
-no_flags Amd flags = refl
+pub same_flags : (set : Set) (flags : Flags) → flags_with set Idle flags ≡ flags
+same_flags Intel flags = refl
+same_flags Amd flags = refl
 
-no_fault : (set : Set) (fault : Fault) → fault_with set Idle fault ≡ fault
-no_fault Intel fault = refl
-no_fault Amd fault = refl
+pub same_fault : (set : Set) (fault : Fault) → fault_with set Idle fault ≡ fault
+same_fault Intel fault = refl
+same_fault Amd fault = refl
 
 -- a chip with some of its parts anew
 made : ChipState → List ℕ → Job → Flags → Fault → ChipState
@@ -44,19 +45,19 @@ unlooked s cells idle looks =
     let none = rests s idle in
     let same : cells ≡ s.cells = subst (λ (l : Look). LooksTo s l cells) none looks in
     let now : record (looked (look s) s) { cells = cells } ≡ record (looked Rests s) { cells = cells } = ap (λ (l : Look). record (looked l s) { cells = cells }) none in
-    let flags = no_flags s.part.set s.flags in
-    let fault = no_fault s.part.set s.fault in
+    let flags = same_flags s.part.set s.flags in
+    let fault = same_fault s.part.set s.fault in
     let parts : made s cells Idle (flags_with s.part.set Idle s.flags) (fault_with s.part.set Idle s.fault) ≡ made s s.cells s.job s.flags s.fault = cc in
     now ∙ (made_looked s cells ∙ (parts ∙ made_same s))
 
 turned : ChipState → Bool → Bool → ChipState
-turned s t6 t2 = record s { t6 = t6; t2 = t2 }
+turned s toggle_6 toggle_2 = record s { toggle_6 = toggle_6; toggle_2 = toggle_2 }
 
-turned_same : (s : ChipState) → turned s s.t6 s.t2 ≡ s
+turned_same : (s : ChipState) → turned s s.toggle_6 s.toggle_2 ≡ s
 unfolding turned
 turned_same s = refl
 
-toggled_is : (u : ℕ) (s : ChipState) → toggled u s ≡ turned s (flipped (toggles_6 s) s.t6) (flipped (toggles_2 s u) s.t2)
+toggled_is : (u : ℕ) (s : ChipState) → toggled u s ≡ turned s (flipped (toggles_6 s) s.toggle_6) (flipped (toggles_2 s u) s.toggle_2)
 unfolding turned
 toggled_is u s = refl
 
@@ -82,21 +83,21 @@ by_set Intel s t u answer idle fault out reads =
     (same, subst (λ (j : Job). MatchBool (runs j) (answer ≡ bit_if 0x40 (is_held s.held)) (ShowsMode s.mode s u answer)) idle shows)
 by_set Amd s t u answer idle fault out reads =
     let first : t ≡ toggled u s = reads.rest ∙ ap (toggled u) (unlooked s t.cells idle reads.cells) in
-    let six = still_6 s.job s.fault s.t6 idle fault in
-    let two = still_2 s.job s.fault (shows_held s.mode s u) s.t2 idle fault out in
-    let flips : turned s (flipped (toggles_6 s) s.t6) (flipped (toggles_2 s u) s.t2) ≡ turned s s.t6 s.t2 = cc in
+    let six = still_6 s.job s.fault s.toggle_6 idle fault in
+    let two = still_2 s.job s.fault (shows_held s.mode s u) s.toggle_2 idle fault out in
+    let flips : turned s (flipped (toggles_6 s) s.toggle_6) (flipped (toggles_2 s u) s.toggle_2) ≡ turned s s.toggle_6 s.toggle_2 = cc in
     let same : t ≡ s = first ∙ (toggled_is u s ∙ (flips ∙ turned_same s)) in
     let shows : shown s u ≡ mode_at s.mode s u = ap (λ (j : Job). if runs j then working j s else fault_at s.fault s u) idle ∙ ap (λ (f : Fault). fault_at f s u) fault in
     (same, reads.answers ∙ (ap (λ (v : ChipState). shown v u) same ∙ shows))
 
-array_of : (set : Set) (s : ChipState) (u answer : ℕ) → s.mode ≡ Array → in_held s.held s.part (place s.part u) ≡ false → Answers set s u answer
+array_of : (set : Set) (s : ChipState) (u answer : ℕ) → s.mode ≡ Array → holds_at s.held s.part.blocks (place s.part u) ≡ false → Answers set s u answer
     → answer ≡ unit_at s.part.device s.cells u
 unfolding Answers
 array_of Intel s u answer mode out shows =
     let by_array : ShowsMode Array s u answer = subst (λ (m : Mode). ShowsMode m s u answer) mode shows in by_array.same out
 array_of Amd s u answer mode out shows =
     shows ∙ (ap (λ (m : Mode). mode_at m s u) mode
-    ∙ ap (λ (b : Bool). if b then 0x80 + bit_if 0x40 s.t6 + bit_if 0x04 s.t2 else unit_at s.part.device s.cells u) out)
+    ∙ ap (λ (b : Bool). if b then 0x80 + bit_if 0x40 s.toggle_6 + bit_if 0x04 s.toggle_2 else unit_at s.part.device s.cells u) out)
 
 query_of : (set : Set) (s : ChipState) (u answer : ℕ) → s.mode ≡ Query → Answers set s u answer → answer ≡ query_at s.part u
 unfolding Answers
@@ -104,7 +105,7 @@ query_of Intel s u answer mode shows = let by_query : ShowsMode Query s u answer
 query_of Amd s u answer mode shows = shows ∙ ap (λ (m : Mode). mode_at m s u) mode
 
 -- A read of a chip that shows its array changes nothing and answers the unit, outside a held block.
-pub reads_array : (s t : ChipState) (u answer : ℕ) → IsShown s → in_held s.held s.part (place s.part u) ≡ false → Reads s u answer t
+pub reads_array : (s t : ChipState) (u answer : ℕ) → IsShown s → holds_at s.held s.part.blocks (place s.part u) ≡ false → Reads s u answer t
     → (t ≡ s) × (answer ≡ unit_at s.part.device s.cells u)
 reads_array s t u answer is out reads =
     let hidden : shows_held s.mode s u ≡ false = ap (λ (m : Mode). shows_held m s u) is.mode ∙ out in
@@ -145,7 +146,7 @@ unfolding with_mode
 with_reset s = refl
 
 -- a chip in mode Array without a fault is reset already
-is_reset : (s : ChipState) → s.mode ≡ Array → s.fault ≡ NoFault → s ≡ reset s
+pub is_reset : (s : ChipState) → s.mode ≡ Array → s.fault ≡ NoFault → s ≡ reset s
 is_reset s mode fault = let both : with_mode s s.mode s.fault ≡ with_mode s Array NoFault = cc in sym (with_same s) ∙ (both ∙ with_reset s)
 
 -- in mode Array
@@ -167,52 +168,51 @@ query_code s u v code set idle fault mode rest is =
     ∙ (ap (λ (x : Step). query_steps x s (v % 256)) rest ∙ ap (λ (n : ℕ). query_steps Rest s n) is)))
 
 -- 0xF0 leads a chip of set 0002 to its array
-first_amd : (mode : Mode) (fault : Fault) (s : ChipState) (u v : ℕ) → s.mode ≡ mode → s.fault ≡ fault → s.part.set ≡ Amd → s.step ≡ Rest → s.job ≡ Idle
+reset_amd : (mode : Mode) (fault : Fault) (s : ChipState) (u v : ℕ) → s.mode ≡ mode → s.fault ≡ fault → s.part.set ≡ Amd → s.step ≡ Rest → s.job ≡ Idle
     → can_reset Amd mode fault ≡ true → v % 256 ≡ 0xF0 → written s u v ≡ reset s
-first_amd Array NoFault s u v m f set rest idle can is = array_code s u v 0xF0 set idle f m rest is ∙ is_reset s m f
-first_amd Query NoFault s u v m f set rest idle can is =
+reset_amd Array NoFault s u v m f set rest idle can is = array_code s u v 0xF0 set idle f m rest is ∙ is_reset s m f
+reset_amd Query NoFault s u v m f set rest idle can is =
     query_code s u v 0xF0 set idle f m rest is ∙ is_reset (record s { mode = Array }) refl f
-first_amd Ident NoFault s u v m f set rest idle can is = cc
-first_amd Status NoFault s u v m f set rest idle can is = cc
-first_amd Locks NoFault s u v m f set rest idle can is = cc
-first_amd mode (TimeFault job) s u v m f set rest idle can is =
+reset_amd Ident NoFault s u v m f set rest idle can is = cc
+reset_amd Status NoFault s u v m f set rest idle can is = cc
+reset_amd Locks NoFault s u v m f set rest idle can is = cc
+reset_amd mode (TimeFault job) s u v m f set rest idle can is =
     written_amd s u v set idle
     ∙ (ap (λ (g : Fault). fault_steps g s u v) f
     ∙ (ap (λ (n : ℕ). if n == 0xF0 then record s { step = Rest; mode = Array; fault = NoFault } else s) is
     ∙ ap (λ (x : Step). record s { step = x; mode = Array; fault = NoFault }) (sym rest)))
-first_amd mode AbortFault s u v m f set rest idle can is = cc
+reset_amd mode AbortFault s u v m f set rest idle can is = cc
 
-no_intel_fault : (mode : Mode) (fault : Fault) → can_reset Intel mode fault ≡ true → fault ≡ NoFault
+pub resets_amd : (s : ChipState) (u v : ℕ) → AtRest Amd s → v % 256 ≡ 0xF0 → written s u v ≡ reset s
+resets_amd s u v is low = reset_amd s.mode s.fault s u v refl refl is.set is.step is.job is.resets low
+
+-- a chip of set 0001 that the reset codes lead to its array has no fault
+pub no_intel_fault : (mode : Mode) (fault : Fault) → can_reset Intel mode fault ≡ true → fault ≡ NoFault
 no_intel_fault mode NoFault can = refl
 no_intel_fault mode (TimeFault job) can = cc
 no_intel_fault mode AbortFault can = cc
 
-reset_by : (set : Set) (s : ChipState) (u v w : ℕ) → s.part.set ≡ set → IsResting s → v % 256 ≡ 0xF0 → w % 256 ≡ 0xFF → written (written s u v) u w ≡ reset s
-reset_by Intel s u v w set is low high =
-    let can : can_reset Intel s.mode s.fault ≡ true = subst (λ (x : Set). can_reset x s.mode s.fault ≡ true) set is.resets in
-    let fault = no_intel_fault s.mode s.fault can in
-    ap (λ (t : ChipState). written t u w) (written_intel s u v 0xF0 set is.job is.step low)
-    ∙ (written_intel (record s { mode = Array }) u w 0xFF set is.job is.step high ∙ is_reset (record s { mode = Array }) refl fault)
-reset_by Amd s u v w set is low high =
-    let can : can_reset Amd s.mode s.fault ≡ true = subst (λ (x : Set). can_reset x s.mode s.fault ≡ true) set is.resets in
-    ap (λ (t : ChipState). written t u w) (first_amd s.mode s.fault s u v refl refl set is.step is.job can low)
-    ∙ array_code (reset s) u w 0xFF set is.job refl refl is.step high
-
--- The two reset codes, wherever they are written, lead a resting chip to its array.
-pub resets : (s : ChipState) (u v w : ℕ) → IsResting s → v % 256 ≡ 0xF0 → w % 256 ≡ 0xFF → written (written s u v) u w ≡ reset s
-resets s u v w is low high = reset_by s.part.set s u v w refl is low high
+-- The two reset codes, wherever they are written, lead a chip at rest to its array.
+pub resets : (kind : Set) (s : ChipState) (u v w : ℕ) → AtRest kind s → v % 256 ≡ 0xF0 → w % 256 ≡ 0xFF → written (written s u v) u w ≡ reset s
+resets Intel s u v w is low high =
+    let fault = no_intel_fault s.mode s.fault is.resets in
+    ap (λ (t : ChipState). written t u w) (written_intel s u v 0xF0 is.set is.job is.step low)
+    ∙ (written_intel (record s { mode = Array }) u w 0xFF is.set is.job is.step high ∙ is_reset (record s { mode = Array }) refl fault)
+resets Amd s u v w is low high =
+    ap (λ (t : ChipState). written t u w) (resets_amd s u v is low)
+    ∙ array_code (reset s) u w 0xFF is.set is.job refl refl is.step high
 
 enter_amd : (device : Device) (s : ChipState) (v w : ℕ) → s.part.device ≡ device → s.part.set ≡ Amd → s.job ≡ Idle → s.step ≡ Rest → s.mode ≡ Array → s.fault ≡ NoFault
     → v % 256 ≡ 0x98 → w % 256 ≡ 0x98 → written (written s 0x55 v) 0xAA w ≡ record s { mode = Query }
 enter_amd X8 s v w d set idle rest mode fault low high =
-    ap (λ (t : ChipState). written t 0xAA w) (array_code s 0x55 v 0x98 set idle fault mode rest low ∙ ap (λ (x : Device). if 0x55 == aq x then record s { mode = Query } else s) d)
+    ap (λ (t : ChipState). written t 0xAA w) (array_code s 0x55 v 0x98 set idle fault mode rest low ∙ ap (λ (x : Device). if 0x55 == query_address x then record s { mode = Query } else s) d)
     ∙ query_code (record s { mode = Query }) 0xAA w 0x98 set idle fault refl rest high
 enter_amd X16 s v w d set idle rest mode fault low high =
-    ap (λ (t : ChipState). written t 0xAA w) (array_code s 0x55 v 0x98 set idle fault mode rest low ∙ ap (λ (x : Device). if 0x55 == aq x then record s { mode = Query } else s) d)
+    ap (λ (t : ChipState). written t 0xAA w) (array_code s 0x55 v 0x98 set idle fault mode rest low ∙ ap (λ (x : Device). if 0x55 == query_address x then record s { mode = Query } else s) d)
     ∙ query_code (record s { mode = Query }) 0xAA w 0x98 set idle fault refl rest high
 enter_amd X16Byte s v w d set idle rest mode fault low high =
-    ap (λ (t : ChipState). written t 0xAA w) (array_code s 0x55 v 0x98 set idle fault mode rest low ∙ ap (λ (x : Device). if 0x55 == aq x then record s { mode = Query } else s) d)
-    ∙ (array_code s 0xAA w 0x98 set idle fault mode rest high ∙ ap (λ (x : Device). if 0xAA == aq x then record s { mode = Query } else s) d)
+    ap (λ (t : ChipState). written t 0xAA w) (array_code s 0x55 v 0x98 set idle fault mode rest low ∙ ap (λ (x : Device). if 0x55 == query_address x then record s { mode = Query } else s) d)
+    ∙ (array_code s 0xAA w 0x98 set idle fault mode rest high ∙ ap (λ (x : Device). if 0xAA == query_address x then record s { mode = Query } else s) d)
 
 enter_by : (set : Set) (s : ChipState) (v w : ℕ) → s.part.set ≡ set → IsShown s → v % 256 ≡ 0x98 → w % 256 ≡ 0x98 → written (written s 0x55 v) 0xAA w ≡ record s { mode = Query }
 enter_by Intel s v w set is low high =
@@ -224,21 +224,71 @@ enter_by Amd s v w set is low high = enter_amd s.part.device s v w refl set is.j
 pub enters_query : (s : ChipState) (v w : ℕ) → IsShown s → v % 256 ≡ 0x98 → w % 256 ≡ 0x98 → written (written s 0x55 v) 0xAA w ≡ record s { mode = Query }
 enters_query s v w is low high = enter_by s.part.set s v w refl is low high
 
-reset_rests : (set : Set) (mode : Mode) (fault : Fault) → can_reset set mode fault ≡ true → can_reset set Array NoFault ≡ true
-reset_rests Intel mode fault can = refl
-reset_rests Amd mode fault can = refl
+-- ---- a chip at rest
 
--- a reset chip rests, and shows its array
-pub reset_shows : (s : ChipState) → IsResting s → IsShown (reset s)
-reset_shows s is = record { mode = refl; step = is.step; job = is.job; fault = refl }
+pub array_resets : (set : Set) → can_reset set Array NoFault ≡ true
+array_resets Intel = refl
+array_resets Amd = refl
 
-pub reset_resting : (s : ChipState) → IsResting s → IsResting (reset s)
-reset_resting s is = record { step = is.step; job = is.job; held = is.held; resets = reset_rests s.part.set s.mode s.fault is.resets }
+query_resets : (set : Set) → can_reset set Query NoFault ≡ true
+query_resets Intel = refl
+query_resets Amd = refl
 
-can_query : (set : Set) → can_reset set Query NoFault ≡ true
-can_query Intel = refl
-can_query Amd = refl
+-- in its array, without a fault
+pub resets_in : (set : Set) (mode : Mode) (fault : Fault) → mode ≡ Array → fault ≡ NoFault → can_reset set mode fault ≡ true
+resets_in set mode fault m f = ap (λ (x : Mode). can_reset set x fault) m ∙ (ap (can_reset set Array) f ∙ array_resets set)
 
--- and so does one that shows its query table
-pub query_resting : (s : ChipState) → IsResting s → IsResting (record (reset s) { mode = Query })
-query_resting s is = record { step = is.step; job = is.job; held = is.held; resets = can_query s.part.set }
+-- in another mode, of set 0002 in the same
+pub resets_still : (set : Set) (mode now : Mode) (fault : Fault) → can_reset set mode fault ≡ true → (set ≡ Amd → now ≡ mode) → can_reset set now fault ≡ true
+resets_still Intel mode now fault can same = ap (can_reset Intel now) (no_intel_fault mode fault can)
+resets_still Amd mode now fault can same = ap (λ (m : Mode). can_reset Amd m fault) (same refl) ∙ can
+
+time_resets : (mode : Mode) (job : Job) → can_reset Amd mode (TimeFault job) ≡ true
+time_resets Array job = refl
+time_resets Query job = refl
+time_resets Ident job = refl
+time_resets Status job = refl
+time_resets Locks job = refl
+
+-- after a job broke off
+pub resets_broken : (set : Set) (mode : Mode) (broken : Job) (fault : Fault) → can_reset set mode fault ≡ true → can_reset set mode (fault_with set broken fault) ≡ true
+resets_broken Intel mode broken fault can = can
+resets_broken Amd mode Idle fault can = can
+resets_broken Amd mode (Program at bytes left) fault can = time_resets mode (Program at bytes left)
+resets_broken Amd mode (Erase target left) fault can = time_resets mode (Erase target left)
+resets_broken Amd mode (Pausing b wait left) fault can = can
+
+pub resets_shown : (set : Set) (s : ChipState) → IsShown s → can_reset set s.mode s.fault ≡ true
+resets_shown set s is = resets_in set s.mode s.fault is.mode is.fault
+
+-- a chip that shows its array takes every command
+pub shown_takes : (kind : Set) (s : ChipState) → s.part.set ≡ kind → IsShown s → TakesCommands kind s
+shown_takes kind s set is = record {
+  rest = record { set = set; step = is.step; job = is.job; resets = resets_shown kind s is };
+  mode = λ amd. is.mode;
+  fault = is.fault;
+}
+
+-- a chip that waits, and runs no job, is at rest
+pub waits_rests : (kind : Set) (s : ChipState) → Waits kind s → s.job ≡ Idle → AtRest kind s
+waits_rests kind s is idle = record { set = is.set; step = is.step; job = idle; resets = is.resets }
+
+pub takes_waits : (kind : Set) (s : ChipState) → TakesCommands kind s → Waits kind s
+takes_waits kind s is = record { set = is.rest.set; step = is.rest.step; mode = is.mode; resets = is.rest.resets }
+
+pub rests_idle : (s : ChipState) → IsShown s → s.held ≡ NotHeld → IsIdle s
+rests_idle s is free = record { rest = (shown_takes s.part.set s refl is).rest; held = free }
+
+-- a chip after the reset codes shows its array, and is at rest
+pub reset_shows : (kind : Set) (s : ChipState) → AtRest kind s → IsShown (reset s)
+reset_shows kind s is = record { mode = refl; step = is.step; job = is.job; fault = refl }
+
+pub reset_idle : (s : ChipState) → IsIdle s → IsIdle (reset s)
+reset_idle s is = rests_idle (reset s) (reset_shows s.part.set s is.rest) is.held
+
+-- and so is one that shows its query table
+pub query_idle : (s : ChipState) → IsIdle s → IsIdle (record (reset s) { mode = Query })
+query_idle s is = record {
+  rest = record { set = refl; step = is.rest.step; job = is.rest.job; resets = query_resets s.part.set };
+  held = is.held;
+}
