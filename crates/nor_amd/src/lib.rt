@@ -32,8 +32,6 @@ mod chip;
 mod commands;
 mod locks;
 mod shown;
-#[cfg(test)]
-mod tests;
 mod toggles;
 
 pub use chip::Amd;

@@ -29,7 +29,9 @@ fn bit_if(bit: u16, set: bool) -> u16
 
 // The status of a program of these bytes. Its bit 7 is that of the last unit's low byte.
 fn programming(device: Device, load: &[u8], toggle_6: bool) -> u16
-    ensures { result ≡ bit_if 0x80 (nat_lt (slice_index load.now (length load.now - unit_len device)) 0x80) + bit_if 0x40 toggle_6 }
+    ensures { result
+        ≡ bit_if 0x80 (nat_lt (slice_index load.now (length load.now - unit_len device)) 0x80)
+        + bit_if 0x40 toggle_6 }
 {
     let last = load.len().saturating_sub(unit_len(device));
     let low = if last < load.len() { load[last] } else { 0 };

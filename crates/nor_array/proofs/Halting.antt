@@ -1,8 +1,8 @@
 -- A halt has a cause: an armed cut, or a stuck lane.
-use Rattle.std.proofs.Common.{◌≡◌, ℕ, List, [], ◌∷◌, refl, sym, subst, ap, ◌∙◌, Bool, true, false, ◌||◌, inl, inr, Option, None}
+use Rattle.std.proofs.Common.{◌≡◌, ℕ, List, [], ◌∷◌, refl, sym, subst, ap, ◌∙◌, Bool, true, false, ◌||◌, inl, inr, None}
+use Rattle.std.proofs.lemmas.Bool.{or_parts}
 use Rattle.nor_array.specs.Array.{ArrayState}
 use Rattle.nor_array.specs.After.{after, after_reply, after_done, after_opened, after_erased, after_failed}
-use Rattle.nor_array.specs.Refusals.{refusal}
 use Rattle.nor_array.specs.Needs.{needs_of}
 use Rattle.nor_array.specs.Admits.{Admits, Unrefused, AsksChips, IsArmed}
 use Rattle.nor_array.specs.Legal.{Facts, Agrees, ReplyAgrees, Legal, is_stuck}
@@ -81,20 +81,12 @@ reply_unarmed reply e a is goes none = is
 
 -- ---- so a history has none
 
-first_off : (a b : Bool) → (a || b) ≡ false → (a ≡ false) × (b ≡ false)
-first_off false false off = (refl, refl)
-first_off false true off = absurd (cc)
-first_off true b off = absurd (cc)
-
-off_with : (a b : Bool) → a ≡ false → b ≡ false → (a || b) ≡ false
-off_with a b x y = cc
-
 never_halts : (facts : Facts) (a : ArrayState) (es : List Entry) → Legal facts a es → IsUnarmed a → has_arming es ≡ false → IsSound facts → has_halt es ≡ false
 never_halts facts a [] legal is none sound = refl
 never_halts facts a (e ∷ es) legal is none sound =
-    let arms = first_off (is_arming e.op) (has_arming es) none in
+    let arms = or_parts (is_arming e.op) (has_arming es) none in
     let goes = entry_halts e facts a is sound legal.0 legal.1 in
-    off_with (is_halt e.reply) (has_halt es) goes (never_halts facts (after a e) es legal.2 (reply_unarmed e.reply e a is goes arms.0) arms.1 sound)
+    ap (λ (b : Bool). b || has_halt es) goes ∙ never_halts facts (after a e) es legal.2 (reply_unarmed e.reply e a is goes arms.0) arms.1 sound
 
 pub halts_have_a_cause : (facts : Facts) (a : ArrayState) (es : List Entry) → Legal facts a es → a.power ≡ On → a.armed ≡ None
     → has_arming es ≡ false → IsSound facts → has_halt es ≡ false

@@ -1,11 +1,10 @@
 -- Reads and programs leave the locks, and meet none where none is set.
-use Rattle.std.proofs.Common.{◌≡◌, ◌+◌, ◌∙◌, ◌&&◌, ℕ, zero, suc, List, length, Bool, true, false, Option, Some, None, if◌then◌else◌, refl, ap}
+use Rattle.std.proofs.Common.{◌≡◌, ◌+◌, ◌∙◌, ◌&&◌, ℕ, zero, suc, List, length, Bool, true, false, Some, None, if◌then◌else◌, refl, ap}
 use Rattle.nor_array.specs.Array.{ArrayState, is_locked, lowest}
 use Rattle.nor_array.specs.Admits.{first_locked}
 use Rattle.nor_array.specs.After.{after_reply, after_halted}
 use Rattle.nor_array.specs.Needs.{needs_of}
 use Rattle.nor_array.specs.Refusals.{touches}
-use Rattle.nor_array.specs.declared.entry.Entry.{Entry}
 use Rattle.nor_array.specs.declared.entry.Halted.{Halted as HaltCause}
 use Rattle.nor_array.specs.declared.entry.Op.{Op}
 use Rattle.nor_array.specs.declared.entry.Op.TheVariants.{Read, Program}

@@ -72,7 +72,8 @@ LockLeaves (StuckHalt lane) old asked left = left ≡ lock_byte old ∷ []
 
 -- and of the call's own work
 abbrev pub WorkLeaves : Op → Halted → ArrayState → List ℕ → Type 0
-WorkLeaves (Program at new) cause a left = ProgramLeaves (first_locked a (Program at new)) (range a.bytes at (length new)) new left
+WorkLeaves (Program at new) cause a left =
+    ProgramLeaves (first_locked a (Program at new)) (range a.bytes at (length new)) new left
 WorkLeaves (Lock b) cause a left = LockLeaves cause (is_locked a b) true left
 WorkLeaves (Unlock b) cause a left = LockLeaves cause (is_locked a b) false left
 WorkLeaves _ cause a left = left ≡ []
@@ -85,7 +86,8 @@ HaltLeaves cause op a bytes =
 -- programming this place would clear a bit
 abbrev pub would_change : (old : List ℕ) (at : ℕ) (new : List ℕ) (p : ℕ) → Bool
 would_change old at new p =
-    nat_le at p && nat_lt p (at + length new) && not (bit_and (slice_index old p) (slice_index new (p - at)) == slice_index old p)
+    nat_le at p && nat_lt p (at + length new)
+    && not (bit_and (slice_index old p) (slice_index new (p - at)) == slice_index old p)
 
 -- a byte of the span lies in the range and would change
 abbrev pub span_changes : (old : List ℕ) (at : ℕ) (new : List ℕ) (span : Span) → Bool
@@ -97,10 +99,12 @@ program_breaks a at new = list_any (span_changes a.bytes at new) a.consts.weak
 
 -- a weak span would change that meets a part of the range, or that ends before a place
 abbrev pub breaks_here : ArrayState → (at : ℕ) → List ℕ → (from len : ℕ) → Bool
-breaks_here a at new from len = list_any (λ span. meets from len span && span_changes a.bytes at new span) a.consts.weak
+breaks_here a at new from len =
+    list_any (λ span. meets from len span && span_changes a.bytes at new span) a.consts.weak
 
 abbrev pub breaks_before : ArrayState → (at : ℕ) → List ℕ → (from : ℕ) → Bool
-breaks_before a at new from = list_any (λ span. nat_le (span_end span) from && span_changes a.bytes at new span) a.consts.weak
+breaks_before a at new from =
+    list_any (λ span. nat_le (span_end span) from && span_changes a.bytes at new span) a.consts.weak
 
 -- Where a program may fail: `from` up to `to` lie in its range, a weak span that meets them would change, and none that
 -- ends before them would. It leaves bytes between there.
@@ -115,7 +119,8 @@ pub record FailsWithin (a : ArrayState) (at : ℕ) (new : List ℕ) (from to : �
 -- A program is Done exactly where no weak span would change, and Failed exactly where one would.
 abbrev pub ProgramEnds : ArrayState → ℕ → List ℕ → Reply → List ℕ → Type 0
 ProgramEnds a at new Done bytes = (program_breaks a at new ≡ false) × (bytes ≡ [])
-ProgramEnds a at new (Failed from to lanes) bytes = (program_breaks a at new ≡ true) × FailsWithin a at new from to bytes
+ProgramEnds a at new (Failed from to lanes) bytes =
+    (program_breaks a at new ≡ true) × FailsWithin a at new from to bytes
 ProgramEnds a at new _ bytes = ⊥
 
 -- a weak span meets what is under erase
@@ -156,7 +161,8 @@ EndsUnlocked (Some b) op a reply bytes = (reply ≡ Locked b) × (bytes ≡ [])
 abbrev pub AsksChips : Reply → Op → ArrayState → List ℕ → Type 0
 AsksChips NotYet op a bytes = (may_come (needs_of op).waits a.under ≡ true) × (bytes ≡ [])
 AsksChips (HaltedReply (OffHalt n)) op a bytes = IsArmed a.armed n × HaltLeaves (OffHalt n) op a bytes
-AsksChips (HaltedReply (StuckHalt lane)) op a bytes = (may_come (needs_of op).sticks a.under ≡ true) × HaltLeaves (StuckHalt lane) op a bytes
+AsksChips (HaltedReply (StuckHalt lane)) op a bytes =
+    (may_come (needs_of op).sticks a.under ≡ true) × HaltLeaves (StuckHalt lane) op a bytes
 AsksChips reply op a bytes = EndsUnlocked (first_locked a op) op a reply bytes
 
 abbrev pub Unrefused : Bool → Entry → ArrayState → Type 0

@@ -25,8 +25,8 @@ programmed bytes at new = put bytes at (all_and (range bytes at (length new)) ne
 abbrev pub with_lock : ℕ → Bool → ArrayState → ArrayState
 with_lock b locked a = record a { locks = slice_set a.locks b locked }
 
--- Done. A program stores its bytes, a lock bit is set or cleared, a cut is armed. Power-on leaves the locks or sets them
--- all, and ends the erase and the armed cut.
+-- Done. A program stores its bytes, a lock bit is set or cleared, a cut is armed. Power-on leaves the locks or sets
+-- them all, and ends the erase and the armed cut.
 abbrev pub after_done : Op → ArrayState → ArrayState
 after_done (Program at new) a = record a { bytes = programmed a.bytes at new }
 after_done (Lock b) a = with_lock b true a
@@ -50,10 +50,11 @@ abbrev pub after_erased : Op → ArrayState → ArrayState
 after_erased Poll a = closed (replicate (open_span a).len 0xFF) a
 after_erased _ a = a
 
--- Failed. A program stores its bytes up to `from`, and what it names from there on gets the entry's bytes; an erase leaves
--- them in what it had under erase.
+-- Failed. A program stores its bytes up to `from`, and what it names from there on gets the entry's bytes; an erase
+-- leaves them in what it had under erase.
 abbrev pub after_failed : Op → ℕ → List ℕ → ArrayState → ArrayState
-after_failed (Program at new) from bytes a = record a { bytes = put (programmed a.bytes at (take (from - at) new)) from bytes }
+after_failed (Program at new) from bytes a =
+    record a { bytes = put (programmed a.bytes at (take (from - at) new)) from bytes }
 after_failed Poll from bytes a = closed bytes a
 after_failed _ from bytes a = a
 
@@ -65,16 +66,16 @@ power_of (StuckHalt lane) = Stuck lane
 abbrev pub names_locked : List ℕ → Bool
 names_locked left = slice_index left 0 == 1
 
--- What a halt leaves of the call's own work: the range of a program gets the bytes, the lock of a lock call the bit that
--- the byte names.
+-- What a halt leaves of the call's own work: the range of a program gets the bytes, the lock of a lock call the bit
+-- that the byte names.
 abbrev pub left_by : Op → List ℕ → ArrayState → ArrayState
 left_by (Program at new) left a = record a { bytes = put a.bytes at left }
 left_by (Lock b) left a = with_lock b (names_locked left) a
 left_by (Unlock b) left a = with_lock b (names_locked left) a
 left_by _ left a = a
 
--- Halted for the first time, power being on. What is under erase gets the first part of the entry's bytes, and the call's
--- own work the rest; the erase is given up, and the halt is kept. A halt that is kept already changes nothing.
+-- Halted for the first time, power being on. What is under erase gets the first part of the entry's bytes, and the
+-- call's own work the rest; the erase is given up, and the halt is kept. A halt that is kept already changes nothing.
 abbrev pub after_halted : Power → Halted → Op → List ℕ → ArrayState → ArrayState
 after_halted On cause op bytes a =
     let gone = closed (take (open_span a).len bytes) a in

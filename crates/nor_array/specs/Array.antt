@@ -67,7 +67,8 @@ powered_locks consts locks = if consts.keeps then locks else replicate (length c
 
 -- The opening: no erase is under way, power is on and no cut is armed.
 abbrev pub opening : Constants → List ℕ → ArrayState
-opening consts bytes = record { consts = consts; bytes = bytes; locks = consts.locked; under = None; power = On; armed = None }
+opening consts bytes =
+    record { consts = consts; bytes = bytes; locks = consts.locked; under = None; power = On; armed = None }
 
 -- so many bytes from a place on
 abbrev pub range : List ℕ → ℕ → ℕ → List ℕ

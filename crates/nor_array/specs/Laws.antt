@@ -27,7 +27,8 @@ EveryCallHasAnAnswer = (a : ArrayState) (caller : ℕ) (op : Op) → HasItsCalle
 
 -- What array and call alone decide has one reply and no bytes, whatever else may be chosen.
 abbrev pub RefusalsAreDecided : Type 0
-RefusalsAreDecided = (a : ArrayState) (e : Entry) (reply : Reply) → Admits a e → refusal a e.caller e.op ≡ Some reply → (e.reply ≡ reply) × (e.bytes ≡ [])
+RefusalsAreDecided = (a : ArrayState) (e : Entry) (reply : Reply) → Admits a e
+    → refusal a e.caller e.op ≡ Some reply → (e.reply ≡ reply) × (e.bytes ≡ [])
 
 -- an array goes on to be one
 abbrev pub EntriesKeepArrays : Type 0
@@ -38,7 +39,8 @@ abbrev pub programs_at : Op → ℕ → Bool
 programs_at (Program at new) p = nat_le at p && nat_lt p (at + length new)
 programs_at _ p = false
 
--- The entry may change the byte at this place. A failed program changes none from `to` on; a failed erase what was under erase alone.
+-- The entry may change the byte at this place. A failed program changes none from `to` on; a failed erase what was
+-- under erase alone.
 abbrev pub may_change : Reply → Op → ArrayState → ℕ → Bool
 may_change Done op a p = programs_at op p
 may_change Erased op a p = is_within (open_span a) p
@@ -83,9 +85,9 @@ names_armed Done (Arm cut mask) = true
 names_armed Done PowerOn = true
 names_armed _ op = false
 
--- What an entry doesn't name stays: the constants, the bytes but for the range of a program, below `to` where it failed,
--- and those of an erase that ends, the locks but for the one of a lock call and all of them at a power-on that doesn't keep
--- them, the erase under way, power and the armed cut.
+-- What an entry doesn't name stays: the constants, the bytes but for the range of a program, below `to` where it
+-- failed, and those of an erase that ends, the locks but for the one of a lock call and all of them at a power-on
+-- that doesn't keep them, the erase under way, power and the armed cut.
 pub record KeepsTheRest (a : ArrayState) (e : Entry) : Type 0 where
   pub consts : (after a e).consts ≡ a.consts
   pub size : length (after a e).bytes ≡ length a.bytes

@@ -51,9 +51,11 @@ LacksSuspend _ kind = Unit {0}
 abbrev pub range_changes : ArrayState → ℕ → List ℕ → Bool
 range_changes a at new = is_some (lowest (would_change a.bytes at new) at (length new))
 
--- A program that is halted by a stuck lane, with power on and nothing under erase, had something to do in unlocked blocks.
+-- A program that is halted by a stuck lane, with power on and nothing under erase, had something to do in unlocked
+-- blocks.
 abbrev pub SticksAtWork : Op → ArrayState → Type 0
-SticksAtWork (Program at new) a = (is_on a.power && not (is_open a.under)) ≡ true → (first_locked a (Program at new) ≡ None) × (range_changes a at new ≡ true)
+SticksAtWork (Program at new) a =
+    (is_on a.power && not (is_open a.under)) ≡ true → (first_locked a (Program at new) ≡ None) × (range_changes a at new ≡ true)
 SticksAtWork _ a = Unit {0}
 
 -- A piece that is programmed at once, so many bus words from word `first` on: one word, or with buffers several of one
@@ -67,25 +69,31 @@ pub record IsPiece (facts : Facts) (blocks : List Span) (first words : ℕ) : Ty
 -- the lanes, as bits, are exactly those with a weak span that passes the test
 pub record AreLanes (facts : Facts) (test : Span → Bool) (weak : List Span) (lanes : ℕ) : Type 0 where
   pub few : lanes < 2 ^ facts.geometry.lanes
-  pub each : (lane : ℕ) → lane < facts.geometry.lanes → has_bit lanes lane ≡ list_any (λ span. lane_of facts span.from == lane && test span) weak
+  pub each : (lane : ℕ) → lane < facts.geometry.lanes
+      → has_bit lanes lane ≡ list_any (λ span. lane_of facts span.from == lane && test span) weak
 
 -- each byte of a lane that isn't among these is as told, by its place
 abbrev pub OthersAre : Facts → (lanes from : ℕ) → (ℕ → ℕ) → List ℕ → Type 0
 OthersAre facts lanes from told bytes =
-    (k : ℕ) → k < length bytes → has_bit lanes (lane_of facts (from + k)) ≡ false → slice_index bytes k ≡ told (from + k)
+    (k : ℕ) → k < length bytes → has_bit lanes (lane_of facts (from + k)) ≡ false
+    → slice_index bytes k ≡ told (from + k)
 
 -- A program fails in the part of its range that lies in one piece. It names the lanes with a weak span there that would
 -- change; the bytes of the others are old AND new.
-pub record FailsInPiece (facts : Facts) (a : ArrayState) (at : ℕ) (new : List ℕ) (from to lanes : ℕ) (bytes : List ℕ) : Type 0 where
+pub record FailsInPiece (facts : Facts) (a : ArrayState) (at : ℕ) (new : List ℕ) (from to lanes : ℕ) (bytes : List ℕ)
+    : Type 0 where
   pub first : ℕ
   pub words : ℕ
   pub piece : IsPiece facts a.consts.blocks first words
   pub begins : from ≡ max at (first * word_len facts)
   pub ends : to ≡ min (at + length new) ((first + words) * word_len facts)
-  pub named : AreLanes facts (λ span. meets from (to - from) span && span_changes a.bytes at new span) a.consts.weak lanes
-  pub others : OthersAre facts lanes from (λ p. bit_and (slice_index a.bytes p) (slice_index new (p - at))) bytes
+  pub named : AreLanes facts (λ span. meets from (to - from) span && span_changes a.bytes at new span) a.consts.weak
+      lanes
+  pub others : OthersAre facts lanes from
+      (λ p. bit_and (slice_index a.bytes p) (slice_index new (p - at))) bytes
 
--- An erase fails in all that was under erase. It names the lanes with a weak span there; the bytes of the others are 0xFF.
+-- An erase fails in all that was under erase. It names the lanes with a weak span there; the bytes of the others are
+-- 0xFF.
 pub record FailsInErase (facts : Facts) (a : ArrayState) (from to lanes : ℕ) (bytes : List ℕ) : Type 0 where
   pub named : AreLanes facts (meets from (to - from)) a.consts.weak lanes
   pub others : OthersAre facts lanes from (λ p. 0xFF) bytes

@@ -24,9 +24,16 @@ abbrev pub lock_call : ℕ → CallNeeds
 lock_call b = record bare_call { reach = Block b; waits = BesideErase; sticks = BesideErase; locks = true }
 
 abbrev pub needs_of : Op → CallNeeds
-needs_of (Read at len) = record bare_call { reach = Range at len; idle = len == 0; waits = BesideErase; sticks = BesideErase }
+needs_of (Read at len) =
+    record bare_call { reach = Range at len; idle = len == 0; waits = BesideErase; sticks = BesideErase }
 needs_of (Program at new) =
-    record bare_call { reach = Range at (length new); idle = length new == 0; waits = BesideErase; sticks = Always; unlocked = true }
+    record bare_call {
+      reach = Range at (length new);
+      idle = length new == 0;
+      waits = BesideErase;
+      sticks = Always;
+      unlocked = true;
+    }
 needs_of (EraseOpen b) = record bare_call { reach = Block b; opens = true; unlocked = true }
 needs_of EraseAll = record bare_call { reach = Everywhere; opens = true; unlocked = true; chip_erase = true }
 needs_of Poll = record bare_call { waits = Always; sticks = Always }

@@ -48,7 +48,8 @@ impl Model for PlainArray {
 }
 
 /// The array at its opening, with as many bytes as the map has, in which the weak spans lie, and
-/// locks for its blocks. Power is on, no erase is under way and no cut is armed. It takes memory for the bytes and the locks.
+/// locks for its blocks. Power is on, no erase is under way and no cut is armed. It takes memory for
+/// the bytes and the locks.
 pub fn plain(alloc: Global, bytes: &[u8], consts: Consts) -> Result<PlainArray, NoMemory>
     requires size { length bytes.now ≡ total_len consts.map }
     requires weak { IsTrue (lie_within (length bytes.now) consts.weak.items) }

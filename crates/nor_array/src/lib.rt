@@ -33,8 +33,6 @@ mod needs;
 mod program;
 mod refuse;
 mod state;
-#[cfg(test)]
-mod tests;
 
 pub use admit::admits;
 pub use array::{Consts, PlainArray, bytes_of, plain};

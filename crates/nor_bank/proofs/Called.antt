@@ -291,6 +291,6 @@ went_within least most more a b le went = went_then least most 0 0 least more a 
 -- ---- where both calls are built
 
 pub can_make : (b : BankState) (a : ArrayState) (op : Op) → is_range op ≡ true → CanCall b a → CanMake op b a
-can_make b a (Read at len) range can = record { stands = can.stands; closed = can.closed; built = tt; unlocked = refl }
-can_make b a (Program at new) range can = record { stands = can.stands; closed = can.closed; built = can.built; unlocked = none_locked a at new can.unlocked }
+can_make b a (Read at len) range can = record { stands = can.stands; closed = can.closed; unlocked = refl }
+can_make b a (Program at new) range can = record { stands = can.stands; closed = can.closed; unlocked = none_locked a at new can.unlocked }
 can_make b a op range can = absurd (let both : false ≡ true = range in cc)

@@ -36,7 +36,7 @@ changes_same f g at new p same = elim (cases_lt p at) [
     outside byte at new p (inl low) = grind (arith, nat_tests, low)
     outside byte at new p (inr past) = grind (arith, nat_tests, past)
 
-lowest_same : (f g : ℕ → Bool) (k n : ℕ) → ((p : ℕ) → k ≤ p → p < k + n → f p ≡ g p) → lowest f k n ≡ lowest g k n
+pub lowest_same : (f g : ℕ → Bool) (k n : ℕ) → ((p : ℕ) → k ≤ p → p < k + n → f p ≡ g p) → lowest f k n ≡ lowest g k n
 lowest_same f g k zero same = refl
 lowest_same f g k (suc n) same =
     ap (λ (x : Bool). if x then Some k else lowest f (k + 1) n) (same k (omega arith) (omega arith))

@@ -19,15 +19,15 @@ use Rattle.nor_array.specs.declared.entry.Reply.TheVariants.{Done, OutOfRange, T
 use Rattle.nor_cell.specs.declared.device.Work.TheVariants.{Word}
 use Rattle.nor_query.specs.Derived.{limit_of}
 use Rattle.nor_poll.specs.Word.{word_most}
-use Rattle.nor_poll.specs.declared.lanes.Halt.{Halt}
-use Rattle.nor_bank.specs.Programs.{CanProgram, ProgramsTo, BreaksOff, changes_at, words_passing, LeavesBy, IsSound}
+use Rattle.nor_bank.specs.Programs.{CanProgram, RangeBecomes, changes_at, words_passing, IsSound}
+use Rattle.nor_bank.specs.declared.programming.Outcome.{Outcome}
 use Rattle.nor_bank.specs.Ranges.{words_met}
 use Rattle.nor_bank.specs.Stands.{Stands}
 use Rattle.nor_bank.specs.State.{BankState, size_of, blocks_of, word_bytes, byte_of}
 use Rattle.nor_probe.specs.declared.probing.Found.{Found}
 
--- At most so many cycles were asked for, the one that failed among them. Where power went, it was by an armed cut that came
--- within them.
+-- At most so many cycles were asked for, the one that failed among them. Where power went, it was by an armed cut that
+-- came within them.
 pub record Asks (most : ℕ) (old new : BusState) : Type 0 where
   pub cycles : new.cycles ≤ old.cycles + most
   pub failing : new.failed ≢ old.failed → new.cycles < old.cycles + most
@@ -120,27 +120,23 @@ MayAnswer (Read at len) b reply = ReadAnswers b.after reply
 MayAnswer (Program at new) b reply = ProgramAnswers b.found.geometry.lanes b.after at (length new) reply
 MayAnswer _ b reply = Unit {0}
 
--- What programs are built for: banks of which no chip has a weak place.
+-- no chip has a weak place
 abbrev pub IsBuilt : BankState → Type 0
 IsBuilt b = AllLanes IsSound b.bus
 
--- The bank stands for an array, and its calls are built for both today: nothing is under erase, no place is weak, and no block
--- is locked.
+-- The bank stands for an array, and the layers above call it today: nothing is under erase, no place is weak, and no
+-- block is locked.
 pub record CanCall (b : BankState) (a : ArrayState) : Type 0 where
   pub stands : Stands b a
   pub closed : b.erase ≡ None
   pub built : IsBuilt b
   pub unlocked : (n : ℕ) → is_locked a n ≡ false
 
-abbrev pub IsBuiltFor : Op → BankState → Type 0
-IsBuiltFor (Program at new) b = IsBuilt b
-IsBuiltFor _ b = Unit {0}
-
--- The bank stands for the array, and the call is built for both today.
+-- The bank stands for the array, and the call is built for both today: nothing is under erase, and what it programs is
+-- unlocked.
 pub record CanMake (op : Op) (b : BankState) (a : ArrayState) : Type 0 where
   pub stands : Stands b a
   pub closed : b.erase ≡ None
-  pub built : IsBuiltFor op b
   pub unlocked : first_locked a op ≡ None
 
 -- how often a word may be read working
@@ -168,37 +164,23 @@ most_cycles _ b = 80
 -- how many bus words of a range would lose a bit
 abbrev pub words_changed : BankState → ArrayState → (at : ℕ) (new : List ℕ) → ℕ
 words_changed b a at new =
-    words_passing (word_bytes b.found) (would_change a.bytes at new) (at / word_bytes b.found) (words_in b at (length new))
+    words_passing (word_bytes b.found) (would_change a.bytes at new) (at / word_bytes b.found)
+    (words_in b at (length new))
 
 -- ---- programs of a bank whose chips can be programmed
 
 abbrev pub CanProgramIn : (width : ℕ) (b : BankState) (at : ℕ) (new : List ℕ) → Type 0
 CanProgramIn width b at new = CanProgram width b.found.query.set b.found.geometry (word_limit b) at (length new) b.bus
 
--- all of the range was programmed
-abbrev pub ProgramsRange : (width : ℕ) (old : BankState) (at : ℕ) (new : List ℕ) → BankState → Type 0
-ProgramsRange width old at new now =
-    CanProgramIn width old at new → ProgramsTo old.found.geometry.device at new (at + length new) old.bus now.bus
+-- what became of the range
+abbrev pub BecomesRange : (width : ℕ) (old : BankState) (at : ℕ) (new : List ℕ) → Outcome → BankState → Type 0
+BecomesRange width old at new outcome now =
+    CanProgramIn width old at new → RangeBecomes width old.found.geometry at new outcome old.bus now.bus
 
--- or some lanes broke off in bus word u
-abbrev pub BreaksRange : (width : ℕ) (old : BankState) (at : ℕ) (new : List ℕ) → (u lanes : ℕ) → BankState → Type 0
-BreaksRange width old at new u lanes now =
-    CanProgramIn width old at new
-    → BreaksOff old.found.geometry lanes at new (u * width) (u * width + width) old.bus now.bus
-
--- and each bus word was read, and those that would change were programmed
+-- Each bus word was read, and those that would change were programmed.
 abbrev pub CostsRange : (width : ℕ) (old : BankState) (at : ℕ) (new : List ℕ) → BankState → Type 0
 CostsRange width old at new now =
     let words = words_met at (length new) width in
     let changed = words_passing width (changes_at (byte_of old) at new) (at / width) words in
     CanProgramIn width old at new
     → Counted words (words + changed * word_most old.found.query.set (word_limit old)) old.bus now.bus
-
--- no lane breaks off where none is weak
-abbrev pub NotBroken : (width : ℕ) (old : BankState) (at : ℕ) (new : List ℕ) → Type 0
-NotBroken width old at new = CanProgramIn width old at new → AllLanes IsSound old.bus → ⊥
-
--- it was given up
-abbrev pub LeavesRange : (width : ℕ) (old : BankState) (at : ℕ) (new : List ℕ) → Halt → BankState → Type 0
-LeavesRange width old at new halt now =
-    CanProgramIn width old at new → LeavesBy old.found.geometry.device at new at halt old.bus now.bus

@@ -66,6 +66,10 @@ nearer_none : (armed : Option Armed) → Nearer 0 0 armed armed
 nearer_none None = tt
 nearer_none (Some armed) = (omega arith, omega arith, refl)
 
+nearer_still : (armed : Option Armed) → Nearer 0 1 armed armed
+nearer_still None = tt
+nearer_still (Some armed) = (omega arith, omega arith, refl)
+
 nearer_then : (l m n o k q : ℕ) (x y z : Option Armed) → k ≤ l + n → m + o ≤ q → Nearer l m x y → Nearer n o y z → Nearer k q x z
 nearer_then l m n o k q None None None ge le a b = tt
 nearer_then l m n o k q None None (Some z) ge le a b = absurd b
@@ -156,6 +160,7 @@ lost_one a b due f k = record {
   power = f.power;
   was_armed = due_was_armed a.power a.armed due;
   due = due_now a.power a.armed due;
+  armed = subst (λ (x : Option Armed). Nearer 0 1 a.armed x) (sym f.armed) (nearer_still a.armed);
   rose = let e = f.cycles in omega arith;
   few = let e = f.cycles in omega arith;
   failed = f.failed;
@@ -168,6 +173,7 @@ lost_then l m o q a b c le w x = record {
   power = x.power;
   was_armed = λ on none. x.was_armed (w.power on) (still_none l m a.armed b.armed w.armed none);
   due = λ on. due_then l m o q a.armed b.armed le w.armed (x.due (w.power on));
+  armed = nearer_then l m 0 o 0 q a.armed b.armed c.armed (omega arith) le w.armed x.armed;
   rose = let p = w.enough in let r = x.rose in omega (arith, p, r);
   few = let p = w.few in let r = x.few in omega arith;
   failed = subst (λ (n : ℕ). more 1 n ≤ c.failed) w.failed x.failed;

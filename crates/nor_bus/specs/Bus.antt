@@ -20,7 +20,17 @@ pub record BusState : Type 0 where
 -- what stands where no chip is, so that a lane can be named by its number alone
 abbrev pub no_chip : ChipState
 no_chip = record {
-  part = record { set = Intel; device = X8; table = []; blocks = []; weak = []; stuck = false; pace_program = 0; pace_erase = 0; pace_suspend = 0 };
+  part = record {
+    set = Intel;
+    device = X8;
+    table = [];
+    blocks = [];
+    weak = [];
+    stuck = false;
+    pace_program = 0;
+    pace_erase = 0;
+    pace_suspend = 0;
+  };
   cells = [];
   locks = [];
   suspends = 0;

@@ -42,7 +42,8 @@ pub record BusFails (old new : BusState) : Type 0 where
 -- Where power went just now, each chip has left of its work what the armed mask says.
 abbrev pub LeavesByMask : (leaves : ℕ → ChipState → ChipState → Type 0) → BusState → BusState → Type 0
 LeavesByMask leaves old new =
-    old.power ≡ true → (cut : Armed) → old.armed ≡ Some cut → (c : ℕ) → c < lanes_of old → leaves cut.mask (lane old c) (lane new c)
+    old.power ≡ true → (cut : Armed) → old.armed ≡ Some cut → (c : ℕ) → c < lanes_of old
+    → leaves cut.mask (lane old c) (lane new c)
 
 -- Power comes back.
 pub record PowersOn (old new : BusState) : Type 0 where

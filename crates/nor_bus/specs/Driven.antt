@@ -26,7 +26,8 @@ reached at bus = at % units_of bus
 -- an armed cut that is from `least` to `most` cycles nearer
 abbrev pub Nearer : (least most : ℕ) → Option Armed → Option Armed → Type 0
 Nearer least most None None = Unit {0}
-Nearer least most (Some old) (Some new) = (new.after + least ≤ old.after) × (old.after ≤ new.after + most) × (new.mask ≡ old.mask)
+Nearer least most (Some old) (Some new) = (new.after + least ≤ old.after)
+    × (old.after ≤ new.after + most) × (new.mask ≡ old.mask)
 Nearer least most None (Some new) = ⊥
 Nearer least most (Some old) None = ⊥
 
@@ -50,8 +51,9 @@ IsDue most (Some cut) = cut.after < most
 pub record Lost (most : ℕ) (old new : BusState) : Type 0 where
   pub power : new.power ≡ false
   pub was_armed : old.power ≡ true → old.armed ≡ None → ⊥
-  -- power went by the armed cut, which came within the call
+  -- power went by the armed cut, which came within the call; it stays armed
   pub due : old.power ≡ true → IsDue most old.armed
+  pub armed : Nearer 0 most old.armed new.armed
   pub rose : more 0 old.cycles ≤ new.cycles
   pub few : new.cycles < old.cycles + most
   pub failed : more 1 old.failed ≤ new.failed

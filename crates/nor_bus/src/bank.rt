@@ -5,7 +5,7 @@ ghost use Rattle.nor_bus.specs.Cycles.{Passes, BusReads, BusWrites, BusFails, Ke
 
 use crate::chips::{cut_all, power_all, read_all, units_of_chips, write_all};
 use crate::{Armed, Bus, Off};
-use nor_cell::{Chip, Device};
+use nor_cell::{Chip, Device, unit_len};
 use nor_word::BusWord;
 use std::marker::{Model, PhantomData};
 
@@ -27,7 +27,13 @@ impl<W: BusWord, C: Chip + Drop> Model for SimBank<W, C> {
 
     ghost Value = { BusState };
 
-    ghost view = { λ s. record { lanes = map C.state s.chips.items; power = s.has_power; armed = s.armed; cycles = s.cycles; failed = s.failed } };
+    ghost view = { λ s. record {
+      lanes = map C.state s.chips.items;
+      power = s.has_power;
+      armed = s.armed;
+      cycles = s.cycles;
+      failed = s.failed;
+    } };
 
     ghost invariant = { λ s. IsBank W.WIDTH s.device (map C.state s.chips.items) };
 }
@@ -37,17 +43,20 @@ pub fn lane_bytes(device: Device) -> u8
     ensures value { result ≡ unit_len device }
     ensures few { (1 ≤ result) × (result ≤ 2) }
 {
-    match device {
-        Device::X8 | Device::X16Byte => 1,
-        Device::X16 => 2,
-    }
+    unit_len(device) as u8
 }
 
 impl<W: BusWord, C: Chip + Drop> SimBank<W, C> {
     /// The chips on a bus with power, with no cut armed and no cycle made.
     pub fn new(device: Device, chips: Vec<C>) -> SimBank<W, C>
         requires { IsBank W.WIDTH device (map C.state chips.items) }
-        ensures { result ≡ record { lanes = map C.state chips.items; power = true; armed = None; cycles = 0; failed = 0 } }
+        ensures { result ≡ record {
+          lanes = map C.state chips.items;
+          power = true;
+          armed = None;
+          cycles = 0;
+          failed = 0;
+        } }
     {
         SimBank {
             chips,

@@ -32,7 +32,8 @@ pub trait Bus<W: BusWord> {
     /// One read cycle. Its count stays at its last value once there, and so does that of failed cycles.
     fn read(&mut self, at: u32) -> Result<W, Off>
         requires { at < units_of (state self.old) }
-        ensures reads { IfOk result (λ word. BusReads (state self.old) at (W.bytes word) (state self.new)) }
+        ensures reads { IfOk result (λ word.
+            BusReads (state self.old) at (W.bytes word) (state self.new)) }
         ensures fails { OnErr result (BusFails (state self.old) (state self.new)) }
         ensures off { IsErr result ↔ (fails (state self.old) ≡ true) }
         ensures kept { KeepsLanes (state self.old) (state self.new) }
@@ -50,7 +51,8 @@ pub trait Bus<W: BusWord> {
     /// Lets power go after so many more cycles. It replaces an earlier armed cut.
     fn arm(&mut self, after: u32, mask: u8)
         requires { (state self.old).power ≡ true }
-        ensures { state self.new ≡ record (state self.old) { armed = Some (record { after = after; mask = mask }) } };
+        ensures { state self.new ≡ record (state self.old)
+            { armed = Some (record { after = after; mask = mask }) } };
 
     /// Brings power back to every chip, with no cut armed.
     fn power_on(&mut self)

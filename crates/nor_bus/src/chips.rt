@@ -30,8 +30,10 @@ fn read_one<C: Chip>(chips: &mut Vec<C>, k: usize, at: u32) -> u16
     requires there { k < length chips.old.items }
     requires within { at < units (chip_at (map C.state chips.old.items) k) }
     ensures size { length (map C.state chips.new.items) ≡ length (map C.state chips.old.items) }
-    ensures step { Reads (chip_at (map C.state chips.old.items) k) at result (chip_at (map C.state chips.new.items) k) }
-    ensures kept { Keeps (chip_at (map C.state chips.old.items) k) (chip_at (map C.state chips.new.items) k) }
+    ensures step { Reads (chip_at (map C.state chips.old.items) k) at result
+        (chip_at (map C.state chips.new.items) k) }
+    ensures kept { Keeps (chip_at (map C.state chips.old.items) k)
+        (chip_at (map C.state chips.new.items) k) }
     ensures fits { result < 256 ^ wide (chip_at (map C.state chips.old.items) k) }
     ensures others { (j : ℕ) → j ≢ k
         → chip_at (map C.state chips.new.items) j ≡ chip_at (map C.state chips.old.items) j }
@@ -43,8 +45,10 @@ fn write_one<C: Chip>(chips: &mut Vec<C>, k: usize, at: u32, value: u16)
     requires there { k < length chips.old.items }
     requires within { at < units (chip_at (map C.state chips.old.items) k) }
     ensures size { length (map C.state chips.new.items) ≡ length (map C.state chips.old.items) }
-    ensures step { chip_at (map C.state chips.new.items) k ≡ written (chip_at (map C.state chips.old.items) k) at value }
-    ensures kept { Keeps (chip_at (map C.state chips.old.items) k) (chip_at (map C.state chips.new.items) k) }
+    ensures step { chip_at (map C.state chips.new.items) k
+        ≡ written (chip_at (map C.state chips.old.items) k) at value }
+    ensures kept { Keeps (chip_at (map C.state chips.old.items) k)
+        (chip_at (map C.state chips.new.items) k) }
     ensures others { (j : ℕ) → j ≢ k
         → chip_at (map C.state chips.new.items) j ≡ chip_at (map C.state chips.old.items) j }
 {
@@ -54,9 +58,12 @@ fn write_one<C: Chip>(chips: &mut Vec<C>, k: usize, at: u32, value: u16)
 fn cut_one<C: Chip>(chips: &mut Vec<C>, k: usize, mask: u8)
     requires there { k < length chips.old.items }
     ensures size { length (map C.state chips.new.items) ≡ length (map C.state chips.old.items) }
-    ensures step { Cuts (chip_at (map C.state chips.old.items) k) (chip_at (map C.state chips.new.items) k) }
-    ensures left { C.leaves mask (chip_at (map C.state chips.old.items) k) (chip_at (map C.state chips.new.items) k) }
-    ensures kept { Keeps (chip_at (map C.state chips.old.items) k) (chip_at (map C.state chips.new.items) k) }
+    ensures step { Cuts (chip_at (map C.state chips.old.items) k)
+        (chip_at (map C.state chips.new.items) k) }
+    ensures left { C.leaves mask (chip_at (map C.state chips.old.items) k)
+        (chip_at (map C.state chips.new.items) k) }
+    ensures kept { Keeps (chip_at (map C.state chips.old.items) k)
+        (chip_at (map C.state chips.new.items) k) }
     ensures others { (j : ℕ) → j ≢ k
         → chip_at (map C.state chips.new.items) j ≡ chip_at (map C.state chips.old.items) j }
 {
@@ -66,8 +73,10 @@ fn cut_one<C: Chip>(chips: &mut Vec<C>, k: usize, mask: u8)
 fn power_one<C: Chip>(chips: &mut Vec<C>, k: usize)
     requires there { k < length chips.old.items }
     ensures size { length (map C.state chips.new.items) ≡ length (map C.state chips.old.items) }
-    ensures step { chip_at (map C.state chips.new.items) k ≡ powered (chip_at (map C.state chips.old.items) k) }
-    ensures kept { Keeps (chip_at (map C.state chips.old.items) k) (chip_at (map C.state chips.new.items) k) }
+    ensures step { chip_at (map C.state chips.new.items) k
+        ≡ powered (chip_at (map C.state chips.old.items) k) }
+    ensures kept { Keeps (chip_at (map C.state chips.old.items) k)
+        (chip_at (map C.state chips.new.items) k) }
     ensures others { (j : ℕ) → j ≢ k
         → chip_at (map C.state chips.new.items) j ≡ chip_at (map C.state chips.old.items) j }
 {

@@ -1,11 +1,11 @@
 -- Cycles of a chip between two commands, of either set.
 use Rattle.std.proofs.Common.{◌≡◌, ◌%◌, ◌+◌, ℕ, List, refl, sym, ◌∙◌, ap, subst, true, false, Bool, not, ◌==◌, ◌||◌, ◌&&◌, if◌then◌else◌}
 use Rattle.std.specs.Prelude.{MatchBool}
-use Rattle.nor_cell.specs.Chip.{ChipState, Job, Idle, Program, Erase, Pausing, NotHeld, Mode, Array, Query, Ident, Status, Locks, Step, Rest, runs, is_held, Flags, Fault, NoFault, TimeFault, AbortFault, place, holds_at}
+use Rattle.nor_cell.specs.Chip.{ChipState, Job, Idle, Program, Erase, Pausing, NotHeld, Mode, Array, Query, Ident, Status, Locks, Step, Rest, runs, is_held, is_locked, block_of, Flags, Fault, NoFault, TimeFault, AbortFault, place, holds_at}
 use Rattle.nor_cell.specs.Look.{Look, Rests, look, look_at, looked, LooksTo, flags_with, fault_with, suspended}
 use Rattle.nor_cell.specs.Bits.{unit_at}
 use Rattle.nor_cell.specs.Steps.{Reads, reads_of, writes_of, written}
-use Rattle.nor_cell.specs.Intel.{Shows, ShowsMode, commanded, steps}
+use Rattle.nor_cell.specs.Intel.{Shows, ShowsMode, ident_at, commanded, steps}
 use Rattle.nor_cell.specs.Shown.{bit_if, query_at}
 use Rattle.nor_cell.specs.Amd.{toggled, toggles_6, toggles_2, flipped, shown, shows_held, is_fault, is_time, is_erasing, fault_at, mode_at, working, fault_steps, mode_steps, array_steps, query_steps, query_address}
 use Rattle.nor_cell.specs.Between.{Waits, AtRest, TakesCommands, IsIdle, IsShown, reset, can_reset}
@@ -104,6 +104,14 @@ unfolding Answers
 query_of Intel s u answer mode shows = let by_query : ShowsMode Query s u answer = subst (λ (m : Mode). ShowsMode m s u answer) mode shows in by_query
 query_of Amd s u answer mode shows = shows ∙ ap (λ (m : Mode). mode_at m s u) mode
 
+ident_of : (s : ChipState) (u answer : ℕ) → s.mode ≡ Ident → Answers Intel s u answer → answer ≡ ident_at s u
+unfolding Answers
+ident_of s u answer mode shows = let by_ident : ShowsMode Ident s u answer = subst (λ (m : Mode). ShowsMode m s u answer) mode shows in by_ident
+
+locks_of : (s : ChipState) (u answer : ℕ) → s.mode ≡ Locks → Answers Amd s u answer → answer ≡ (if is_locked s (block_of s u) then 0 else 1)
+unfolding Answers
+locks_of s u answer mode shows = shows ∙ ap (λ (m : Mode). mode_at m s u) mode
+
 -- A read of a chip that shows its array changes nothing and answers the unit, outside a held block.
 pub reads_array : (s t : ChipState) (u answer : ℕ) → IsShown s → holds_at s.held s.part.blocks (place s.part u) ≡ false → Reads s u answer t
     → (t ≡ s) × (answer ≡ unit_at s.part.device s.cells u)
@@ -119,6 +127,22 @@ reads_query s t u answer mode idle fault reads =
     let hidden : shows_held s.mode s u ≡ false = ap (λ (m : Mode). shows_held m s u) mode in
     let both = by_set s.part.set s t u answer idle fault hidden reads in
     (both.0, query_of s.part.set s u answer mode both.1)
+
+-- A read of a chip that shows its locks changes nothing: one of set 0001 answers a register of a block,
+pub reads_ident : (s t : ChipState) (u answer : ℕ) → s.part.set ≡ Intel → s.mode ≡ Ident → s.job ≡ Idle → s.fault ≡ NoFault → Reads s u answer t
+    → (t ≡ s) × (answer ≡ ident_at s u)
+reads_ident s t u answer set mode idle fault reads =
+    let hidden : shows_held s.mode s u ≡ false = ap (λ (m : Mode). shows_held m s u) mode in
+    let both = by_set s.part.set s t u answer idle fault hidden reads in
+    (both.0, ident_of s u answer mode (subst (λ (k : Set). Answers k s u answer) set both.1))
+
+-- and one of set 0002 the lock of the block.
+pub reads_locks : (s t : ChipState) (u answer : ℕ) → s.part.set ≡ Amd → s.mode ≡ Locks → s.job ≡ Idle → s.fault ≡ NoFault → Reads s u answer t
+    → (t ≡ s) × (answer ≡ (if is_locked s (block_of s u) then 0 else 1))
+reads_locks s t u answer set mode idle fault reads =
+    let hidden : shows_held s.mode s u ≡ false = ap (λ (m : Mode). shows_held m s u) mode in
+    let both = by_set s.part.set s t u answer idle fault hidden reads in
+    (both.0, locks_of s u answer mode (subst (λ (k : Set). Answers k s u answer) set both.1))
 
 -- ---- writes
 

@@ -1,9 +1,10 @@
 -- Blocks that follow each other.
-use Rattle.std.proofs.Common.{◌≡◌, ◌+◌, ◌<◌, ◌≤◌, ℕ, zero, suc, arith, true, ◌==◌, List, [], ◌∷◌, length, get_or}
+use Rattle.std.proofs.Common.{◌≡◌, ◌+◌, ◌<◌, ◌≤◌, ◌⊎◌, inl, inr, ℕ, zero, suc, refl, ap, subst, arith, true, false, ◌==◌, nat_lt, List, [], ◌∷◌, length, get_or}
 use Rattle.std.specs.Prelude.{IsTrue}
 use Rattle.std.specs.List.Sorted.{IsNonDecreasingBy}
-use Rattle.nor_cell.proofs.Logic.{both_pass, same_number}
-use Rattle.nor_cell.specs.Chip.{span_end, has_blocks, blocks_end}
+use Rattle.std.proofs.lemmas.Bool.{cases_lt}
+use Rattle.nor_cell.proofs.Logic.{both_pass, same_number, passes_below, fails_behind}
+use Rattle.nor_cell.specs.Chip.{span_end, has_blocks, blocks_end, block, block_at}
 use Rattle.nor_cell.specs.Ranges.{follow_to, are_blocks}
 use Rattle.nor_cell.specs.declared.device.Span.{Span}
 
@@ -63,3 +64,36 @@ end_from end from span (next ∷ spans) h =
 pub blocks_end_is : (size : ℕ) (blocks : List Span) → IsTrue (are_blocks size blocks) → has_blocks blocks ≡ true → blocks_end blocks ≡ size
 blocks_end_is size [] h some = cc
 blocks_end_is size (span ∷ blocks) h some = end_from size 0 span blocks h
+
+-- ---- the block of a place
+
+later_block : (span : Span) (blocks : List Span) (n : ℕ) → block (span ∷ blocks) (1 + n) ≡ block blocks n
+later_block span blocks n = let e : 1 + n ≡ suc n = omega arith in ap (block (span ∷ blocks)) e
+
+same_by : (span : Span) (blocks : List Span) (p q : ℕ) → p ≤ q → q < span_end (block (span ∷ blocks) (block_at (span ∷ blocks) p))
+    → (q < span_end (block blocks (block_at blocks p)) → block_at blocks q ≡ block_at blocks p)
+    → (p < span_end span) ⊎ (span_end span ≤ p) → block_at (span ∷ blocks) q ≡ block_at (span ∷ blocks) p
+same_by span blocks p q le lt rest (inl low) =
+    let here = passes_below p (span_end span) low in
+    let there : nat_lt q (span_end span) ≡ true = passes_below q (span_end span) (rw here at lt) in rw (here, there) refl
+same_by span blocks p q le lt rest (inr high) =
+    let here = fails_behind p (span_end span) high in
+    let there : nat_lt q (span_end span) ≡ false = fails_behind q (span_end span) (omega arith) in
+    rw (here, there) (ap (λ (n : ℕ). 1 + n) (rest (subst (λ (b : Span). q < span_end b) (later_block span blocks (block_at blocks p)) (rw here at lt))))
+
+-- a place that lies behind another, before the end of its block, is in the same block
+pub same_block : (blocks : List Span) (p q : ℕ) → p ≤ q → q < span_end (block blocks (block_at blocks p)) → block_at blocks q ≡ block_at blocks p
+same_block [] p q le lt = refl
+same_block (span ∷ blocks) p q le lt = same_by span blocks p q le lt (same_block blocks p q le) (cases_lt p (span_end span))
+
+rises_by : (span : Span) (blocks : List Span) (p q : ℕ) → p ≤ q → block_at blocks p ≤ block_at blocks q
+    → (p < span_end span) ⊎ (span_end span ≤ p) → block_at (span ∷ blocks) p ≤ block_at (span ∷ blocks) q
+rises_by span blocks p q le rest (inl low) = let here = passes_below p (span_end span) low in rw here (omega arith)
+rises_by span blocks p q le rest (inr high) =
+    let here = fails_behind p (span_end span) high in
+    let there : nat_lt q (span_end span) ≡ false = fails_behind q (span_end span) (omega arith) in rw (here, there) (omega arith)
+
+-- the blocks of places rise with them
+pub block_rises : (blocks : List Span) (p q : ℕ) → p ≤ q → block_at blocks p ≤ block_at blocks q
+block_rises [] p q le = omega arith
+block_rises (span ∷ blocks) p q le = rises_by span blocks p q le (block_rises blocks p q le) (cases_lt p (span_end span))

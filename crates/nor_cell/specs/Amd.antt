@@ -44,7 +44,8 @@ toggles_6 s = runs s.job || is_fault s.fault
 
 -- bit 2 toggles while an erase runs, after a job that broke, and in the held block
 abbrev pub toggles_2 : ChipState → ℕ → Bool
-toggles_2 s u = is_erasing s.job || not (runs s.job) && (is_time s.fault || not (is_fault s.fault) && shows_held s.mode s u)
+toggles_2 s u = is_erasing s.job || not (runs s.job)
+    && (is_time s.fault || not (is_fault s.fault) && shows_held s.mode s u)
 
 abbrev pub flipped : Bool → Bool → Bool
 flipped toggles bit = if toggles then not bit else bit
@@ -125,18 +126,29 @@ aborted s = record s { step = Rest; fault = AbortFault }
 abbrev pub begin_program : Work → ℕ → List ℕ → ChipState → ChipState
 begin_program work u bytes s =
     if is_locked s (block_of s u) || held_off s (block_of s u) then at_rest s
-    else record s { step = Rest; job = Program (place s.part u) bytes (left_at_start work s.part.pace_program s.part.table) }
+    else record s {
+      step = Rest;
+      job = Program (place s.part u) bytes (left_at_start work s.part.pace_program s.part.table);
+    }
 
 abbrev pub begin_erase : ℕ → ChipState → ChipState
 begin_erase b s =
     if is_locked s b then at_rest s
-    else record s { step = Rest; job = Erase (OneBlock b) (left_at_start Block s.part.pace_erase s.part.table); erases = counted s.erases }
+    else record s {
+      step = Rest;
+      job = Erase (OneBlock b) (left_at_start Block s.part.pace_erase s.part.table);
+      erases = counted s.erases;
+    }
 
 -- One locked block keeps all from being erased at once.
 abbrev pub begin_erase_all : ChipState → ChipState
 begin_erase_all s =
     if is_any_set s.locks then at_rest s
-    else record s { step = Rest; job = Erase AllBlocks (left_at_start Chip s.part.pace_erase s.part.table); erases = counted s.erases }
+    else record s {
+      step = Rest;
+      job = Erase AllBlocks (left_at_start Chip s.part.pace_erase s.part.table);
+      erases = counted s.erases;
+    }
 
 -- in mode Array, by the step; `code` is the low byte of v
 abbrev pub array_steps : Step → ChipState → ℕ → ℕ → ℕ → ChipState
@@ -146,15 +158,18 @@ array_steps Rest s u v code =
     else if code == 0x98 && u == query_address s.part.device then record s { mode = Query }
     else if code == 0x30 && takes_jobs then resumed s
     else s
-array_steps Unlock1 s u v code = if code == 0x55 && u == second_address s.part.device then goes_to Unlock2 s else at_rest s
+array_steps Unlock1 s u v code =
+    if code == 0x55 && u == second_address s.part.device then goes_to Unlock2 s else at_rest s
 array_steps Unlock2 s u v code =
     if code == 0xA0 && u == first_address s.part.device then goes_to ProgramNext s
     else if code == 0x80 && u == first_address s.part.device && not (is_held s.held) then goes_to Erase1 s
     else if code == 0x25 && not (room s == 0) then goes_to (BufferCount (block_of s u)) s
-    else if code == 0xE0 && u == first_address s.part.device && has_locks s.part.table then record s { mode = Locks; step = Rest }
+    else if code == 0xE0 && u == first_address s.part.device && has_locks s.part.table then
+    record s { mode = Locks; step = Rest }
     else at_rest s
 array_steps Erase1 s u v code = if code == 0xAA && u == first_address s.part.device then goes_to Erase2 s else at_rest s
-array_steps Erase2 s u v code = if code == 0x55 && u == second_address s.part.device then goes_to Erase3 s else at_rest s
+array_steps Erase2 s u v code =
+    if code == 0x55 && u == second_address s.part.device then goes_to Erase3 s else at_rest s
 array_steps Erase3 s u v code =
     if code == 0x30 then begin_erase (block_of s u) s
     else if code == 0x10 && u == first_address s.part.device && chip_erase_of Amd s.part.table then begin_erase_all s
@@ -200,14 +215,18 @@ mode_steps Status s u v = s
 -- In fault Abort the two unlock cycles and 0xF0 clear it, and nothing else does.
 abbrev pub abort_steps : Step → ChipState → ℕ → ℕ → ChipState
 abort_steps Rest s u code = if code == 0xAA && u == first_address s.part.device then goes_to Unlock1 s else at_rest s
-abort_steps Unlock1 s u code = if code == 0x55 && u == second_address s.part.device then goes_to Unlock2 s else at_rest s
+abort_steps Unlock1 s u code =
+    if code == 0x55 && u == second_address s.part.device then goes_to Unlock2 s else at_rest s
 abort_steps Unlock2 s u code =
-    if code == 0xF0 && u == first_address s.part.device then record s { step = Rest; mode = Array; fault = NoFault } else at_rest s
+    if code == 0xF0 && u == first_address s.part.device then
+    record s { step = Rest; mode = Array; fault = NoFault }
+    else at_rest s
 abort_steps _ s u code = at_rest s
 
 abbrev pub fault_steps : Fault → ChipState → ℕ → ℕ → ChipState
 fault_steps NoFault s u v = mode_steps s.mode s u v
-fault_steps (TimeFault job) s u v = if v % 256 == 0xF0 then record s { step = Rest; mode = Array; fault = NoFault } else s
+fault_steps (TimeFault job) s u v =
+    if v % 256 == 0xF0 then record s { step = Rest; mode = Array; fault = NoFault } else s
 fault_steps AbortFault s u v = abort_steps s.step s u (v % 256)
 
 -- A write of v at unit u. While a job runs, the suspend code alone is taken.

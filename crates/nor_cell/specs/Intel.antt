@@ -49,7 +49,14 @@ pub record IntelReads (old : ChipState) (u answer : ℕ) (new : ChipState) : Typ
 
 abbrev pub flagged : Bool → Bool → Bool → ChipState → ChipState
 flagged erase program locked s =
-    record s { step = Rest; flags = record { erase = erase || s.flags.erase; program = program || s.flags.program; locked = locked || s.flags.locked } }
+    record s {
+      step = Rest;
+      flags = record {
+        erase = erase || s.flags.erase;
+        program = program || s.flags.program;
+        locked = locked || s.flags.locked;
+      };
+    }
 
 -- both error bits: a command sequence error
 abbrev pub misled : ChipState → ChipState
@@ -60,13 +67,22 @@ begin_program work u bytes s =
     let b = block_of s u in
     if is_locked s b then record (flagged false true true s) { mode = Status }
     else if held_off s b then record (misled s) { mode = Status }
-    else record s { step = Rest; mode = Status; job = Program (place s.part u) bytes (left_at_start work s.part.pace_program s.part.table) }
+    else record s {
+      step = Rest;
+      mode = Status;
+      job = Program (place s.part u) bytes (left_at_start work s.part.pace_program s.part.table);
+    }
 
 abbrev pub begin_erase : ℕ → ChipState → ChipState
 begin_erase b s =
     if is_locked s b then record (flagged true false true s) { mode = Status }
     else if is_held s.held then record (misled s) { mode = Status }
-    else record s { step = Rest; mode = Status; job = Erase (OneBlock b) (left_at_start Block s.part.pace_erase s.part.table); erases = counted s.erases }
+    else record s {
+      step = Rest;
+      mode = Status;
+      job = Erase (OneBlock b) (left_at_start Block s.part.pace_erase s.part.table);
+      erases = counted s.erases;
+    }
 
 -- at rest, by the code
 abbrev pub commanded : ChipState → ℕ → ℕ → ChipState
@@ -77,7 +93,8 @@ commanded s u code =
     else if code == 0x70 then record s { mode = Status }
     else if code == 0x50 then record s { flags = record { erase = false; program = false; locked = false } }
     else if (code == 0x40 || code == 0x10) && takes_jobs then record s { step = ProgramNext; mode = Status }
-    else if code == 0xE8 && takes_jobs && not (room s == 0) then record s { step = BufferCount (block_of s u); mode = Status }
+    else if code == 0xE8 && takes_jobs && not (room s == 0) then
+    record s { step = BufferCount (block_of s u); mode = Status }
     else if code == 0x20 && takes_jobs then record s { step = EraseNext; mode = Status }
     else if code == 0x60 && takes_jobs then record s { step = LockNext; mode = Status }
     else if code == 0xD0 && takes_jobs && is_held s.held then record (resumed s) { mode = Status }

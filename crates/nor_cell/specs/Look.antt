@@ -103,7 +103,9 @@ abbrev pub broken_of : ChipState → Look → Job
 broken_of s Rests = Idle
 broken_of s (Works job) = Idle
 broken_of s (Pauses b left) = Idle
-broken_of s (EndsProgram at bytes) = if is_some (break_of (unit_len s.part.device) s.part.weak at bytes s.cells) then Program at bytes 0 else Idle
+broken_of s (EndsProgram at bytes) =
+    if is_some (break_of (unit_len s.part.device) s.part.weak at bytes s.cells) then Program at bytes 0
+    else Idle
 broken_of s (EndsErase target) = if is_weak s.part.weak (covered target s.part.blocks) then Erase target 0 else Idle
 
 -- A broken job is told by a flag (Intel), or by a fault with that job (Amd).
@@ -137,7 +139,8 @@ abbrev pub suspended_job : ℕ → Job → Job
 suspended_job pace Idle = Idle
 suspended_job pace (Program at bytes left) = Program at bytes left
 suspended_job pace (Pausing b wait left) = Pausing b wait left
-suspended_job pace (Erase (OneBlock b) left) = if nat_lt pace left then Pausing b pace (left - pace) else Erase (OneBlock b) left
+suspended_job pace (Erase (OneBlock b) left) =
+    if nat_lt pace left then Pausing b pace (left - pace) else Erase (OneBlock b) left
 suspended_job pace (Erase AllBlocks left) = Erase AllBlocks left
 
 abbrev pub suspended : ChipState → ChipState

@@ -66,7 +66,8 @@ fault_of (EraseTime target) load = TimeFault (Erase (target_of target) 0)
 fault_of Abort load = AbortFault
 
 -- One list of bytes serves the buffer load, the program that then runs, and the one that broke.
-abbrev pub machine_of : Set → Cells → ShownMode → NextStep → RunningJob → HeldErase → StatusFlags → Failure → Bool → Bool → List ℕ → ChipState
+abbrev pub machine_of : Set → Cells → ShownMode → NextStep → RunningJob → HeldErase → StatusFlags
+    → Failure → Bool → Bool → List ℕ → ChipState
 machine_of set cells mode step job held flags fault toggle_6 toggle_2 load = record {
   part = part_of set cells;
   cells = cells.bytes.items;
@@ -148,7 +149,8 @@ takes _ s u = false
 
 -- the state with a unit more
 abbrev pub loaded : Step → ChipState → ℕ → ℕ → ChipState
-loaded (BufferData b missing first bytes) s u v = taken b (missing - 1) (first_of first bytes u) (bytes ++ unit_bytes s.part.device v) s
+loaded (BufferData b missing first bytes) s u v =
+    taken b (missing - 1) (first_of first bytes u) (bytes ++ unit_bytes s.part.device v) s
 loaded _ s u v = s
 
 -- ---- jobs begin
@@ -159,7 +161,11 @@ work_of AllBlocks = Chip
 
 abbrev pub erase_started : Target → ChipState → ChipState
 erase_started target s =
-    record s { step = Rest; job = Erase target (left_at_start (work_of target) s.part.pace_erase s.part.table); erases = counted s.erases }
+    record s {
+      step = Rest;
+      job = Erase target (left_at_start (work_of target) s.part.pace_erase s.part.table);
+      erases = counted s.erases;
+    }
 
 -- what is loaded is programmed, from unit u on
 abbrev pub program_started : Work → ℕ → List ℕ → ChipState → ChipState

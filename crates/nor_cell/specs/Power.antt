@@ -37,7 +37,8 @@ pub record Cuts (old new : ChipState) : Type 0 where
   pub erasing : (p : ℕ) → is_erasing_at old p ≡ true → slice_index new.cells p < 256
   pub programming : (p : ℕ) → is_erasing_at old p ≡ false → programs_at old.job p ≡ true →
       IsBetween (slice_index old.cells p) (datum_at old.job p) (slice_index new.cells p)
-  pub kept : (p : ℕ) → is_erasing_at old p ≡ false → programs_at old.job p ≡ false → slice_index new.cells p ≡ slice_index old.cells p
+  pub kept : (p : ℕ) → is_erasing_at old p ≡ false → programs_at old.job p ≡ false
+      → slice_index new.cells p ≡ slice_index old.cells p
   pub rest : new ≡ record old { cells = new.cells }
 
 -- The locks after power-on: where the table offers locks set 0001 has all of them set, and set 0002 keeps them.

@@ -9,7 +9,8 @@ use Rattle.nor_cell.specs.declared.device.Span.{Span}
 
 -- a power of two from 2 ^ 12 to 2 ^ 27 bytes
 abbrev pub is_chip_size : ℕ → Bool
-is_chip_size n = list_any (λ k. n == 2 ^ k) (12 ∷ 13 ∷ 14 ∷ 15 ∷ 16 ∷ 17 ∷ 18 ∷ 19 ∷ 20 ∷ 21 ∷ 22 ∷ 23 ∷ 24 ∷ 25 ∷ 26 ∷ 27 ∷ [])
+is_chip_size n = list_any (λ k. n == 2 ^ k) (12 ∷ 13 ∷ 14 ∷ 15 ∷ 16 ∷ 17 ∷ 18 ∷ 19 ∷ 20 ∷ 21 ∷ 22
+    ∷ 23 ∷ 24 ∷ 25 ∷ 26 ∷ 27 ∷ [])
 
 -- strictly ascending, and below a bound
 abbrev pub is_ascending_below : ℕ → List ℕ → Bool

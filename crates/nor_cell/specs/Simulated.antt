@@ -15,7 +15,8 @@ TornProgram d weak at bytes old new =
 -- A block whose erase breaks off gets its high four bits set: old OR 0xF0.
 abbrev pub TornErase : List ℕ → Span → List ℕ → List ℕ → Type 0
 TornErase weak span old new =
-    is_weak weak span ≡ true → (p : ℕ) → span.from ≤ p → p < span_end span → slice_index new p ≡ bit_or (slice_index old p) 0xF0
+    is_weak weak span ≡ true → (p : ℕ) → span.from ≤ p → p < span_end span
+    → slice_index new p ≡ bit_or (slice_index old p) 0xF0
 
 -- the cells after a look
 abbrev pub LeavesBroken : ChipState → Look → List ℕ → Type 0
@@ -29,17 +30,20 @@ LeavesBroken s (EndsErase target) new = TornErase s.part.weak (covered target s.
 pub record CutsJob (mask : ℕ) (old new : ChipState) : Type 0 where
   pub size : length new.cells ≡ length old.cells
   pub byte : (p : ℕ) → erases_at old.job old.part.blocks p ≡ true → slice_index new.cells p < 256
-  pub erasing : (p : ℕ) → erases_at old.job old.part.blocks p ≡ true → slice_index new.cells p ≡ bit_or (slice_index old.cells p) mask
+  pub erasing : (p : ℕ) → erases_at old.job old.part.blocks p ≡ true
+      → slice_index new.cells p ≡ bit_or (slice_index old.cells p) mask
   pub programming : (p : ℕ) → programs_at old.job p ≡ true →
       slice_index new.cells p ≡ bit_and (slice_index old.cells p) (bit_or (datum_at old.job p) mask)
-  pub kept : (p : ℕ) → erases_at old.job old.part.blocks p ≡ false → programs_at old.job p ≡ false → slice_index new.cells p ≡ slice_index old.cells p
+  pub kept : (p : ℕ) → erases_at old.job old.part.blocks p ≡ false → programs_at old.job p ≡ false
+      → slice_index new.cells p ≡ slice_index old.cells p
   pub rest : new ≡ record old { cells = new.cells }
 
 -- .. for the block whose erase is held alone ..
 pub record CutsHeld (mask : ℕ) (old new : ChipState) : Type 0 where
   pub size : length new.cells ≡ length old.cells
   pub byte : (p : ℕ) → holds_at old.held old.part.blocks p ≡ true → slice_index new.cells p < 256
-  pub erasing : (p : ℕ) → holds_at old.held old.part.blocks p ≡ true → slice_index new.cells p ≡ bit_or (slice_index old.cells p) mask
+  pub erasing : (p : ℕ) → holds_at old.held old.part.blocks p ≡ true
+      → slice_index new.cells p ≡ bit_or (slice_index old.cells p) mask
   pub kept : (p : ℕ) → holds_at old.held old.part.blocks p ≡ false → slice_index new.cells p ≡ slice_index old.cells p
   pub rest : new ≡ record old { cells = new.cells }
 
@@ -47,7 +51,8 @@ pub record CutsHeld (mask : ℕ) (old new : ChipState) : Type 0 where
 pub record CutsBy (mask : ℕ) (old new : ChipState) : Type 0 where
   pub erasing : (p : ℕ) → erases_at old.job old.part.blocks p ≡ true → holds_at old.held old.part.blocks p ≡ false →
       slice_index new.cells p ≡ bit_or (slice_index old.cells p) mask
-  pub held : (p : ℕ) → holds_at old.held old.part.blocks p ≡ true → erases_at old.job old.part.blocks p ≡ false → programs_at old.job p ≡ false →
+  pub held : (p : ℕ) → holds_at old.held old.part.blocks p ≡ true
+      → erases_at old.job old.part.blocks p ≡ false → programs_at old.job p ≡ false →
       slice_index new.cells p ≡ bit_or (slice_index old.cells p) mask
   pub programming : (p : ℕ) → holds_at old.held old.part.blocks p ≡ false → programs_at old.job p ≡ true →
       slice_index new.cells p ≡ bit_and (slice_index old.cells p) (bit_or (datum_at old.job p) mask)

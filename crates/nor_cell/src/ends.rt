@@ -16,7 +16,9 @@ const TORN_ERASE: u8 = 0xF0;
 // Stores old AND datum from a place on.
 fn store(cells: &mut [u8], at: usize, bytes: &[u8])
     requires { at + length bytes.now ≤ length cells.old }
-    ensures { ChangesWithin at (at + length bytes.now) (λ p x. x ≡ bit_and (slice_index cells.old p) (slice_index bytes.now (p - at))) cells.old cells.new }
+    ensures { ChangesWithin at (at + length bytes.now)
+        (λ p x. x ≡ bit_and (slice_index cells.old p) (slice_index bytes.now (p - at)))
+        cells.old cells.new }
 {
     for i in 0..bytes.len() {
         cells[at + i] &= bytes[i];
@@ -26,8 +28,12 @@ fn store(cells: &mut [u8], at: usize, bytes: &[u8])
 /// Stores half-way: old AND (datum OR mask).
 pub(crate) fn store_partly(cells: &mut [u8], at: usize, bytes: &[u8], mask: u8)
     requires { at + length bytes.now ≤ length cells.old }
-    ensures left { ChangesWithin at (at + length bytes.now) (λ p x. x ≡ bit_and (slice_index cells.old p) (bit_or (slice_index bytes.now (p - at)) mask)) cells.old cells.new }
-    ensures between { ChangesWithin at (at + length bytes.now) (λ p x. IsBetween (slice_index cells.old p) (slice_index bytes.now (p - at)) x) cells.old cells.new }
+    ensures left { ChangesWithin at (at + length bytes.now)
+        (λ p x. x ≡ bit_and (slice_index cells.old p) (bit_or (slice_index bytes.now (p - at)) mask))
+        cells.old cells.new }
+    ensures between { ChangesWithin at (at + length bytes.now)
+        (λ p x. IsBetween (slice_index cells.old p) (slice_index bytes.now (p - at)) x)
+        cells.old cells.new }
 {
     for i in 0..bytes.len() {
         cells[at + i] &= bytes[i] | mask;
@@ -37,10 +43,13 @@ pub(crate) fn store_partly(cells: &mut [u8], at: usize, bytes: &[u8], mask: u8)
 /// Sets the bits of the mask in each byte of a span.
 pub(crate) fn set_bits(cells: &mut [u8], span: Span, mask: u8)
     requires { span_end span ≤ length cells.old }
-    ensures range { ChangesWithin span.from (span_end span) (λ p x. x ≡ bit_or (slice_index cells.old p) mask) cells.old cells.new }
+    ensures range { ChangesWithin span.from (span_end span)
+        (λ p x. x ≡ bit_or (slice_index cells.old p) mask) cells.old cells.new }
     ensures bytes { AreBytes cells.new }
-    ensures inside { (p : ℕ) → is_within span p ≡ true → slice_index cells.new p ≡ bit_or (slice_index cells.old p) mask }
-    ensures outside { (p : ℕ) → is_within span p ≡ false → slice_index cells.new p ≡ slice_index cells.old p }
+    ensures inside { (p : ℕ) → is_within span p ≡ true
+        → slice_index cells.new p ≡ bit_or (slice_index cells.old p) mask }
+    ensures outside { (p : ℕ) → is_within span p ≡ false
+        → slice_index cells.new p ≡ slice_index cells.old p }
 {
     for p in span.from as usize..span.from as usize + span.len as usize {
         cells[p] |= mask;

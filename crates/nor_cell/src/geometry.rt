@@ -1,7 +1,7 @@
 ghost use Rattle.std.specs.Prelude.{◌≡◌, ◌↔◌, IsTrue, IsFalse, IfOk, IsErr, false};
 ghost use Rattle.nor_cell.specs.Wiring.{is_wiring};
 
-use crate::Device;
+use crate::{Device, unit_len};
 
 /// How many chips lie side by side on the bus word, and how each of them is wired.
 #[derive(Clone, Copy, Debug, PartialEq, Eq, Default)]
@@ -21,11 +21,8 @@ pub fn make_geometry(width: u8, lanes: u8, device: Device) -> Result<Geometry, B
     ensures made { IfOk result (λ g. g ≡ record { lanes = lanes; device = device }) }
     ensures bad { IsErr result ↔ (is_wiring width lanes device ≡ false) }
 {
-    let lane_bytes = match device {
-        Device::X8 | Device::X16Byte => 1,
-        Device::X16 => 2,
-    };
-    if matches!(lanes, 1 | 2 | 4) && width == lanes * lane_bytes {
+    let unit = unit_len(device);
+    if matches!(lanes, 1 | 2 | 4) && usize::from(width) == usize::from(lanes) * unit {
         Ok(Geometry { lanes, device })
     } else {
         Err(BadGeometry)

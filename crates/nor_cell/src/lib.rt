@@ -34,8 +34,6 @@ mod make;
 mod reads;
 mod state;
 mod table;
-#[cfg(test)]
-mod tests;
 
 pub use addresses::{first_address, second_address};
 pub use bits::{is_between, unit_len};

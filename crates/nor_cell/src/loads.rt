@@ -98,7 +98,8 @@ impl Machine {
         requires unit { at < units self.old }
         requires job { (self.old).job ≡ Idle }
         requires fault { (self.old).fault ≡ NoFault }
-        ensures { self.new ≡ record self.old { step = BufferConfirm at (unit_bytes (self.old).part.device value) } }
+        ensures { self.new ≡ record self.old
+            { step = BufferConfirm at (unit_bytes (self.old).part.device value) } }
     {
         self.load.clear();
         push_unit(&mut self.load, self.cells.device, value);

@@ -45,7 +45,8 @@ impl Model for Machine {
 
     ghost use Rattle.nor_cell.specs.Machine.{machine_of, Fits};
 
-    ghost view = { λ m. machine_of m.set m.cells m.mode m.step m.job m.held m.flags m.fault m.toggle_6 m.toggle_2 m.load.items };
+    ghost view = { λ m. machine_of m.set m.cells m.mode m.step m.job m.held m.flags m.fault
+        m.toggle_6 m.toggle_2 m.load.items };
 
     ghost invariant = { λ m. Fits m.cells m.mode m.step m.job m.load.items };
 }
@@ -289,7 +290,8 @@ impl Machine {
     // The locks that the return of power leaves: one set has all set that are offered, the other
     // keeps them.
     fn power_locks(&mut self)
-        ensures { self.new ≡ record self.old { locks = locks_after (self.old).part.set (self.old).part.table (self.old).locks } }
+        ensures { self.new ≡ record self.old
+            { locks = locks_after (self.old).part.set (self.old).part.table (self.old).locks } }
     {
         match self.set {
             Set::Intel => {

@@ -157,7 +157,11 @@ first_refusal file (field ∷ fields) = option_or (refusal_of file field) (first
 -- ---- the fields of the header
 
 abbrev pub magic_field : List ℕ → Field
-magic_field file = record { at = 0; size = 8; bad = if is_magic file One || is_magic file Two then None else Some BadMagic }
+magic_field file = record {
+  at = 0;
+  size = 8;
+  bad = if is_magic file One || is_magic file Two then None else Some BadMagic;
+}
 
 abbrev pub is_width : ℕ → Bool
 is_width n = n == 1 || n == 2 || n == 4 || n == 8
@@ -252,7 +256,8 @@ is_lock_byte before count k byte = nat_le byte 1 && is_agreed before count k (by
 abbrev pub each_lock : List ℕ → List (List Bool) → (at count n : ℕ) → List Field
 each_lock file before at count zero = []
 each_lock file before at count (suc k) =
-    each_lock file before at count k ++ tested_field (at + k) 1 (is_lock_byte before count k (slice_index file (at + k))) ∷ []
+    each_lock file before at count k
+    ++ tested_field (at + k) 1 (is_lock_byte before count k (slice_index file (at + k))) ∷ []
 
 -- the number of locks, and each of them; version 1 has neither
 abbrev pub lock_fields_of : Version → List ℕ → List (List Bool) → (at count : ℕ) → List Field
@@ -269,7 +274,9 @@ cells_field file at = any_field (cells_at file at) (size_in file at)
 unfoldable pub record_fields : List ℕ → ℕ → ℕ → List Field
 record_fields file c at =
     number_fields file at
-    ++ (table_field at ∷ size_field file c at ∷ (weak_fields file at (weak_count file at) ++ (lock_fields file c at ++ cells_field file at ∷ [])))
+    ++ (table_field at ∷ size_field file c at
+    ∷ (weak_fields file at (weak_count file at)
+    ++ (lock_fields file c at ++ cells_field file at ∷ [])))
 
 -- the header's fields and those of the first n records
 abbrev pub fields_before : List ℕ → ℕ → List Field

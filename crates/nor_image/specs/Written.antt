@@ -41,7 +41,8 @@ lock_bytes Two locks = to_le_bytes w32 (length locks) ++ map from_bool locks
 -- all that a chip keeps without power: these numbers, its query table, its size, its weak places, its locks where they are kept, and its cells
 unfoldable pub kept_bytes : Version → Part → (locks : List Bool) → (cells : List ℕ) → (suspends erases : ℕ) → List ℕ
 kept_bytes version part locks cells suspends erases =
-    number_bytes part suspends erases ++ part.table ++ to_le_bytes w32 (length cells) ++ place_bytes part.weak ++ lock_bytes version locks ++ cells
+    number_bytes part suspends erases ++ part.table ++ to_le_bytes w32 (length cells)
+    ++ place_bytes part.weak ++ lock_bytes version locks ++ cells
 
 -- the locks that a chip keeps without power where it is of this set
 abbrev pub kept_of : Set → ChipState → List Bool
@@ -62,7 +63,8 @@ bank_set chips = set_of (chip_at chips 0).part.table
 -- A bank's file of a version, on a bus of so many bytes: the header, and a record for each chip.
 abbrev pub file_in : Version → ℕ → List ChipState → List ℕ
 file_in version width chips =
-    header_bytes version width (chip_at chips 0).part.device (length chips) ++ records_bytes version (bank_set chips) chips
+    header_bytes version width (chip_at chips 0).part.device (length chips)
+    ++ records_bytes version (bank_set chips) chips
 
 -- the file that is written
 abbrev pub file_of : ℕ → List ChipState → List ℕ
@@ -71,7 +73,8 @@ file_of width chips = file_in Two width chips
 -- The machine, the sizes and the blocks are those that the format gives for the chips' tables.
 pub record AreStorable (chips : List ChipState) : Type 0 where
   pub machine : (c : ℕ) → c < length chips → (chip_at chips c).part.set ≡ bank_set chips
-  pub sizes : (c : ℕ) → c < length chips → IsTrue (is_size_by (chip_at chips c).part.table (length (chip_at chips c).cells))
+  pub sizes : (c : ℕ) → c < length chips
+      → IsTrue (is_size_by (chip_at chips c).part.table (length (chip_at chips c).cells))
   pub blocks : (c : ℕ) → c < length chips → (chip_at chips c).part.blocks ≡ table_blocks (chip_at chips c).part.table
 
 -- Lanes that keep equally many locks without power have the same ones.

@@ -67,6 +67,3 @@ pub use error::ImageError;
 pub use loaded::Loaded;
 pub use read::read_image;
 pub use write::{fill_image, write_image};
-
-#[cfg(test)]
-mod tests;

@@ -92,7 +92,8 @@ fn read_lock(
     requires near { at < 2 ^ 31 }
     requires inside { k < count }
     ensures { let byte = slice_index file.now at in
-        Reads (refusal_of file.now (tested_field at 1 (is_lock_byte (kept_of_each set before.now) count k byte)))
+        Reads (refusal_of file.now
+        (tested_field at 1 (is_lock_byte (kept_of_each set before.now) count k byte)))
         (λ locked. locked ≡ (byte == 1)) result }
 {
     let byte = byte_field(file, at)?;
@@ -112,7 +113,8 @@ fn read_each(
     count: usize,
 ) -> Result<Vec<bool>, ImageError>
     requires { at + count < 2 ^ 31 }
-    ensures { MayRead (first_refusal file.now (each_lock file.now (kept_of_each set before.now) at count count))
+    ensures { MayRead (first_refusal file.now
+        (each_lock file.now (kept_of_each set before.now) at count count))
         (λ locks. locks.items ≡ locks_from file.now at count) result }
 {
     let mut locks = Vec::with_capacity(alloc, count)?;
@@ -136,7 +138,8 @@ pub fn read_locks(
 ) -> Result<Vec<bool>, ImageError>
     requires near { at + 4 + count < 2 ^ 31 }
     requires none { version ≡ Version.One → count ≡ 0 }
-    ensures { MayRead (first_refusal file.now (lock_fields_of version file.now (kept_of_each set before.now) at count))
+    ensures { MayRead (first_refusal file.now
+        (lock_fields_of version file.now (kept_of_each set before.now) at count))
         (λ locks. locks.items ≡ locks_from file.now (at + 4) count) result }
 {
     match version {

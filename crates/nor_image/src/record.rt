@@ -196,12 +196,8 @@ pub fn read_record(
     ensures { MayRead (first_refusal file.now (record_fields file.now lane at))
         (AreStored file.now header.geometry.device at) result }
 {
-    let Header {
-        version,
-        geometry,
-        ..
-    } = header;
-    let device = geometry.device;
+    let version = header.version;
+    let device = header.geometry.device;
     let numbers = read_numbers(file, at)?;
     let table = read_table(file, at)?;
     let size = read_size(file, lane, at, &table)?;

@@ -20,7 +20,5 @@
 mod chip;
 mod commands;
 mod shown;
-#[cfg(test)]
-mod tests;
 
 pub use chip::Intel;

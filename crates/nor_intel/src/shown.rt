@@ -22,7 +22,8 @@ const LOCK_REGISTER: u32 = 2;
 
 // The status register, when no job runs.
 fn status_register(held: bool, flags: StatusFlags) -> u8
-    ensures { result ≡ status_of held (record { erase = flags.erase; program = flags.program; locked = flags.locked }) }
+    ensures { result ≡ status_of held
+        (record { erase = flags.erase; program = flags.program; locked = flags.locked }) }
 {
     let mut status = READY;
     if held {

@@ -37,7 +37,8 @@ impl Calls {
         ensures due { IsTrue result ↔ IsDue self.old }
         ensures counted { CountsCall self.old self.new }
         ensures later { self.old.faults ≤ self.new.faults }
-        ensures faults { self.new.faults ≡ (if result then min (self.old.faults + 1) (2 ^ 64 - 1) else self.old.faults) }
+        ensures faults { self.new.faults
+            ≡ (if result then min (self.old.faults + 1) (2 ^ 64 - 1) else self.old.faults) }
     {
         let call = self.made;
         self.made = call.saturating_add(1);

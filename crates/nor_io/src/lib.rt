@@ -29,6 +29,3 @@ pub use mem_sink::MemSink;
 pub use shelf::{LoadError, MAX_FILE, NoMemory, SaveError, Shelf};
 pub use sink::{Sink, SinkError};
 pub use std_sink::StdSink;
-
-#[cfg(test)]
-mod tests;

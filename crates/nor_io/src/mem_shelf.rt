@@ -79,7 +79,8 @@ impl Shelf for MemShelf {
 
     /// The trait's contract. Moreover `WriteFault` comes exactly at the calls that are to fail.
     fn save(&mut self, name: &str, bytes: &[u8]) -> Result<(), SaveError>
-        ensures ok { OnOk result (Saves (shelf_state self.old).files name.now bytes.now (shelf_state self.new).files) }
+        ensures ok { OnOk result
+            (Saves (shelf_state self.old).files name.now bytes.now (shelf_state self.new).files) }
         ensures err { OnErr result ((shelf_state self.new).files ≡ (shelf_state self.old).files) }
         ensures fault { IsErrOf result SaveError.WriteFault
             → Rose (shelf_state self.old).faults (shelf_state self.new).faults }

@@ -81,7 +81,8 @@ pub trait Shelf {
     /// `WriteFault` comes only where the count of faults rose, or stands at its last value. After an
     /// error a told shelf is as it was.
     fn save(&mut self, name: &str, bytes: &[u8]) -> Result<(), SaveError>
-        ensures ok { OnOk result (Saves (state self.old).files name.now bytes.now (state self.new).files) }
+        ensures ok { OnOk result
+            (Saves (state self.old).files name.now bytes.now (state self.new).files) }
         ensures err { OnErr result ((state self.new).files ≡ (state self.old).files) }
         ensures fault { IsErrOf result SaveError.WriteFault
             → Rose (state self.old).faults (state self.new).faults }

@@ -3,7 +3,7 @@ ghost use Rattle.nor_cell.specs.Bits.{unit_len};
 ghost use Rattle.nor_cell.specs.Wiring.{bank_place, lane_at, place_at};
 ghost use Rattle.nor_lane.specs.Candidates.{is_geometry};
 
-use nor_cell::{Device, Geometry};
+use nor_cell::{Geometry, unit_len};
 
 /// The lane, and the byte of its chip, at which byte `at` of a bank lies. The geometry is one of the
 /// nine wirings, and its chips have at most 2^27 bytes each.
@@ -20,7 +20,7 @@ pub fn split(g: Geometry, at: u32) -> (u8, u32)
     ensures alone { (c p : ℕ) → c < g.lanes → bank_place g.lanes (unit_len g.device) c p ≡ at
         → (c ≡ result.0) × (p ≡ result.1) }
 {
-    let unit = unit_bytes(g.device);
+    let unit = unit_len(g.device) as u32;
     let lanes = u32::from(g.lanes);
     let lane = at / unit % lanes;
     let place = at / (lanes * unit) * unit + at % unit;
@@ -38,17 +38,7 @@ pub fn join(g: Geometry, lane: u8, place: u32) -> u32
     ensures lane_back { lane_at g.lanes (unit_len g.device) result ≡ lane }
     ensures place_back { place_at g.lanes (unit_len g.device) result ≡ place }
 {
-    let unit = unit_bytes(g.device);
+    let unit = unit_len(g.device) as u32;
     let lanes = u32::from(g.lanes);
     place / unit * (lanes * unit) + u32::from(lane) * unit + place % unit
-}
-
-// How many bytes a unit of the device has.
-fn unit_bytes(device: Device) -> u32
-    ensures { result ≡ unit_len device }
-{
-    match device {
-        Device::X8 | Device::X16Byte => 1,
-        Device::X16 => 2,
-    }
 }

@@ -19,6 +19,3 @@ mod wirings;
 pub use interleave::{join, split};
 pub use partial::pad;
 pub use wirings::candidates;
-
-#[cfg(test)]
-mod tests;

@@ -5,13 +5,13 @@ use Rattle.nor_cell.specs.declared.device.Set.{Set}
 use Rattle.nor_cell.specs.declared.device.Set.TheVariants.{Intel}
 use Rattle.nor_word.specs.Word.{lane_of}
 use Rattle.nor_bus.specs.Bus.{BusState, wide}
-use Rattle.nor_poll.specs.Told.{ShowsStatus, TellsStatus, Told, ToldAt, seen, seen_idle}
+use Rattle.nor_poll.specs.Told.{ShowsStatus, TellsStatus, TellsErase, Told, ToldAt, seen, seen_idle}
 use Rattle.nor_poll.specs.Toggles.{ShowsToggle, TellsToggle, TellsDatum}
 use Rattle.nor_poll.specs.Reads.{TwoOrLate, ReadBy, SomeLeft}
-use Rattle.nor_poll.specs.Polled.{Answers, InTime}
+use Rattle.nor_poll.specs.Polled.{Answers, InTime, viewed}
 use Rattle.nor_poll.specs.declared.watch.Seen.{Seen}
 use Rattle.nor_poll.specs.declared.polling.Polling.{Polling}
-use Rattle.nor_poll.specs.declared.polling.Polling.TheVariants.{Status, Toggle, Data}
+use Rattle.nor_poll.specs.declared.polling.Polling.TheVariants.{Status, EraseStatus, Toggle, Data}
 use Rattle.nor_poll.proofs.Reading.{told_idle}
 
 status_at : (u : ℕ) (s t : ChipState) (it : Seen) → s.part.set ≡ Intel → Told s it t → ToldAt u s it t
@@ -24,16 +24,20 @@ status_at u s t it set h =
           h.told ∙ (ap (λ (j : Job). seen (runs j) (is_held t.held) t.flags) (told_idle s t it h rests) ∙ sym (ap (λ (k : Set). seen_idle k u t) intel));
     }
 
-pub by_status : {W : Type 0} (bytes : W → List ℕ) (how : Polling W) (u c : ℕ) (s t : ChipState) (it : Seen) → how ≡ Status → TellsStatus s it t → Answers bytes how u c s → ToldAt u s it t
+pub by_status : {W : Type 0} (bytes : W → List ℕ) (how : Polling W) (u c : ℕ) (s t : ChipState) (it : Seen) → how ≡ Status → TellsStatus s it t → Answers bytes how u c s → ToldAt u s it (viewed how t)
 by_status bytes how u c s t it is h answers =
-    let shows : ShowsStatus s = subst (λ (k : Polling _). Answers bytes k u c s) is answers in status_at u s t it shows.set (h shows)
+    let shows : ShowsStatus s = subst (λ (k : Polling _). Answers bytes k u c s) is answers in subst (λ (k : Polling _). ToldAt u s it (viewed k t)) (sym is) (status_at u s t it shows.set (h shows))
 
-pub by_toggle : {W : Type 0} (bytes : W → List ℕ) (how : Polling W) (u c : ℕ) (s t : ChipState) (it : Seen) → how ≡ Toggle → TellsToggle u s it t → Answers bytes how u c s → ToldAt u s it t
-by_toggle bytes how u c s t it is h answers = h (subst (λ (k : Polling _). Answers bytes k u c s) is answers)
+pub by_erase : {W : Type 0} (bytes : W → List ℕ) (how : Polling W) (u c : ℕ) (s t : ChipState) (it : Seen) → how ≡ EraseStatus → TellsErase u s it t → Answers bytes how u c s → ToldAt u s it (viewed how t)
+by_erase bytes how u c s t it is h answers =
+    subst (λ (k : Polling _). ToldAt u s it (viewed k t)) (sym is) (h (subst (λ (k : Polling _). Answers bytes k u c s) is answers))
+
+pub by_toggle : {W : Type 0} (bytes : W → List ℕ) (how : Polling W) (u c : ℕ) (s t : ChipState) (it : Seen) → how ≡ Toggle → TellsToggle u s it t → Answers bytes how u c s → ToldAt u s it (viewed how t)
+by_toggle bytes how u c s t it is h answers = subst (λ (k : Polling _). ToldAt u s it (viewed k t)) (sym is) (h (subst (λ (k : Polling _). Answers bytes k u c s) is answers))
 
 pub by_data : {W : Type 0} (bytes : W → List ℕ) (how : Polling W) (datum : W) (u c : ℕ) (s t : ChipState) (it : Seen) → how ≡ Data datum → TellsDatum u (lane_of (wide s) (bytes datum) c) s it t
-    → Answers bytes how u c s → ToldAt u s it t
-by_data bytes how datum u c s t it is h answers = h (subst (λ (k : Polling _). Answers bytes k u c s) is answers)
+    → Answers bytes how u c s → ToldAt u s it (viewed how t)
+by_data bytes how datum u c s t it is h answers = subst (λ (k : Polling _). ToldAt u s it (viewed k t)) (sym is) (h (subst (λ (k : Polling _). Answers bytes k u c s) is answers))
 
 pub as_toggle : {W : Type 0} (bytes : W → List ℕ) (how : Polling W) (u c : ℕ) (s : ChipState) → how ≡ Toggle → Answers bytes how u c s → ShowsToggle u s
 as_toggle bytes how u c s is answers = subst (λ (k : Polling _). Answers bytes k u c s) is answers

@@ -5,12 +5,13 @@ use Rattle.nor_cell.specs.Amd.{is_time}
 use Rattle.nor_cell.specs.Between.{can_reset, Waits}
 use Rattle.nor_cell.proofs.Between.{same_fault, resets_still, resets_broken, waits_rests}
 use Rattle.nor_cell.specs.Look.{fault_with, is_weak}
+use Rattle.nor_cell.specs.Power.{programs_at}
 use Rattle.nor_cell.specs.declared.device.Set.{Set}
 use Rattle.nor_cell.specs.declared.device.Set.TheVariants.{Intel, Amd}
 use Rattle.nor_poll.specs.Codes.{cycles_of, after_cycles, DarkensIn}
 use Rattle.nor_poll.specs.Erase.{TakesLook, LooksOn, ChangesWithinErase, next_state, erase_polling, look_reads}
 use Rattle.nor_bus.specs.Driven.{Darkens}
-use Rattle.nor_poll.specs.Polled.{Answers, most_reads}
+use Rattle.nor_poll.specs.Polled.{Answers, most_reads, viewed}
 use Rattle.nor_poll.specs.declared.polling.Polling.{Polling}
 use Rattle.nor_poll.specs.Reads.{AfterReads, DarkensReading}
 use Rattle.nor_poll.specs.Told.{ToldAt, HasLeft}
@@ -23,8 +24,9 @@ use Rattle.nor_poll.specs.declared.lanes.LaneState.TheVariants.{Running, Suspend
 use Rattle.nor_poll.specs.declared.watch.Seen.{Seen}
 use Rattle.nor_poll.specs.declared.watch.Seen.TheVariants.{Working, Ready, Suspended as SeenSuspended, Broken as SeenBroken}
 use Rattle.nor_poll.proofs.Codes1.{shows_idle, shows_busy}
+use Rattle.nor_poll.proofs.Waiting.{part_after}
 use Rattle.nor_poll.proofs.Programming.{toggling}
-use Rattle.nor_poll.proofs.Erasing.{StillErases, HasErased, Erases, erases_after, breaks_off, broke, idle_after, outcome, next_idle, within_still, within_ended, within_idle, within_then, dark_erasing, dark_resting}
+use Rattle.nor_poll.proofs.Erasing.{StillErases, HasErased, Erases, erases_after, breaks_off, broke, idle_after, outcome, next_idle, SeesErase, sees_erase, within_still, within_ended, within_idle, within_none, dark_within}
 
 -- ---- the status is shown
 
@@ -88,13 +90,16 @@ answers bytes set u c target state s m takes now = subst (λ (x : ChipState). An
 
 -- ---- reads
 
-within_mode : (target : Target) (mode : Mode) (s t : ChipState) → ChangesWithinErase target (record s { mode = mode }) t → ChangesWithinErase target s t
+pub within_mode : (target : Target) (mode : Mode) (s t : ChipState) → ChangesWithinErase target (record s { mode = mode }) t → ChangesWithinErase target s t
 within_mode target mode s t h = record {
   remains = record { part = h.remains.part; size = h.remains.size; locks = h.remains.locks; erases = h.remains.erases };
   held = h.held;
   suspends = h.suspends;
   outside = h.outside;
-  error = h.error;
+  area = h.area;
+  flags = h.flags;
+  fault = h.fault;
+  most = h.most;
 }
 
 -- What reads leave of a lane, wherever it was: it can be looked at again but for where it is.
@@ -161,7 +166,7 @@ read_still set target left n mode s t some waits names same job held still =
     record {
       waits = waits_same set mode (Erase target still.left) s t waits same is;
       names = ap (λ (x : ChipState). names_job x.fault) is ∙ names;
-      keeps = within_mode target mode s t (within_still target left n (record s { mode = mode }) t still);
+      keeps = within_mode target mode s t (within_still target left n (record s { mode = mode }) t job still);
       held = held_t;
       fewer = λ free had. let k = still.count free in omega (arith, some, k, before, after);
       most = omega (arith, down, before, after);
@@ -187,7 +192,7 @@ read_ended set target left n mode s t waits names same job held ended =
     record {
       waits = waits_after set mode broken s t waits same (ap (λ (x : ChipState). x.part) is) (ap (λ (x : ChipState). x.step) is) (ap (λ (x : ChipState). x.mode) is) fault;
       names = ap names_job fault ∙ names_broke set (breaks_off target s) target s.fault names;
-      keeps = within_mode target mode s t (within_ended target left n (record s { mode = mode }) t ended);
+      keeps = within_mode target mode s t (within_ended target left n (record s { mode = mode }) t job ended);
       held = held_t;
       fewer = λ free had. omega (arith, had, after);
       most = omega (arith, after);
@@ -206,7 +211,7 @@ shows_erase Intel mode t status is = is ∙ status refl
 shows_erase Amd mode t status is = tt
 
 untold_still : (set : Set) (s t : ChipState) → IsUntold set s → t.flags ≡ s.flags → t.fault ≡ s.fault → IsUntold set t
-untold_still Intel s t untold flags fault = (ap (λ f. f.erase) flags ∙ untold.0, ap (λ f. f.program) flags ∙ untold.1)
+untold_still Intel s t untold flags fault = ap (λ f. f.erase) flags ∙ untold
 untold_still Amd s t untold flags fault = fault ∙ untold
 
 untold_in : (set : Set) (mode : Mode) (s : ChipState) → IsUntold set s → IsUntold set (record s { mode = mode })
@@ -287,7 +292,6 @@ looks_on_working set target n s t read ran left = record {
   others = λ apart. absurd (apart refl);
   works = λ e f. left;
   fewer = read.fewer;
-  most = read.most;
   few = read.few;
   ends = λ e apart. absurd (apart refl);
 }
@@ -327,24 +331,23 @@ looks_on_ended set target n s t read (inr ended) idle =
       others = λ apart. absurd (apart refl);
       works = λ e f. absurd (ended_over b f);
       fewer = read.fewer;
-      most = read.most;
       few = read.few;
       ends = λ e apart. ended.1;
     }
 
 -- it isn't told to work
-looks_over : (set : Set) (target : Target) (u n : ℕ) (it : Seen) (x s t : ChipState) → IsRead set target n s t → RanTo target n s t → ToldAt u x it t → it ≢ Working → LooksOn set target Running (next_state Running it) n s t
-looks_over set target u n it x s t read ran told rests =
-    let same : next_state Running it ≡ outcome_of (tells_broken t.part.set t) = ap (next_state Running) (told.is rests) ∙ next_idle t.part.set u t read.held in
-    subst (λ (k : LaneState). LooksOn set target Running k n s t) (sym same) (looks_on_ended set target n s t read ran (told.idle rests))
+looks_over : (set : Set) (target : Target) (u n : ℕ) (it : Seen) (x y s t : ChipState) → IsRead set target n s t → RanTo target n s t → ToldAt u x it y → SeesErase u y t → it ≢ Working → LooksOn set target Running (next_state Running it) n s t
+looks_over set target u n it x y s t read ran told sees rests =
+    let same : next_state Running it ≡ outcome_of (tells_broken t.part.set t) = ap (next_state Running) (told.is rests ∙ sees.1) ∙ next_idle t.part.set u t read.held in
+    subst (λ (k : LaneState). LooksOn set target Running k n s t) (sym same) (looks_on_ended set target n s t read ran (sym sees.0 ∙ told.idle rests))
 
 -- a lane that ran
-looks_running : (set : Set) (target : Target) (u n : ℕ) (it : Seen) (mode : Mode) (s t : ChipState) → IsRead set target n s t → RanTo target n s t → ToldAt u (record s { mode = mode }) it t
+looks_running : (set : Set) (target : Target) (u n : ℕ) (it : Seen) (mode : Mode) (y s t : ChipState) → IsRead set target n s t → RanTo target n s t → ToldAt u (record s { mode = mode }) it y → SeesErase u y t
     → LooksOn set target Running (next_state Running it) n s t
-looks_running set target u n Working mode s t read ran told = looks_on_working set target n s t read ran (told.had refl)
-looks_running set target u n Ready mode s t read ran told = looks_over set target u n Ready (record s { mode = mode }) s t read ran told (λ e. cc)
-looks_running set target u n SeenSuspended mode s t read ran told = looks_over set target u n SeenSuspended (record s { mode = mode }) s t read ran told (λ e. cc)
-looks_running set target u n (SeenBroken how) mode s t read ran told = looks_over set target u n (SeenBroken how) (record s { mode = mode }) s t read ran told (λ e. cc)
+looks_running set target u n Working mode y s t read ran told sees = looks_on_working set target n s t read ran (told.had refl)
+looks_running set target u n Ready mode y s t read ran told sees = looks_over set target u n Ready (record s { mode = mode }) y s t read ran told sees (λ e. cc)
+looks_running set target u n SeenSuspended mode y s t read ran told sees = looks_over set target u n SeenSuspended (record s { mode = mode }) y s t read ran told sees (λ e. cc)
+looks_running set target u n (SeenBroken how) mode y s t read ran told sees = looks_over set target u n (SeenBroken how) (record s { mode = mode }) y s t read ran told sees (λ e. cc)
 
 -- a lane that had ended before stays where it is
 lane_stays : (state : LaneState) (target : Target) (s t : ChipState) → state ≢ Running → state ≢ Suspended → LaneIs state target s → t.part ≡ s.part → t.cells ≡ s.cells → t.job ≡ Idle → t.held ≡ NotHeld → LaneIs state target t
@@ -368,56 +371,59 @@ looks_other set target n state mode s t ran takes read is =
       others = λ apart. (refl, cells);
       works = λ e f. absurd (ran e);
       fewer = read.fewer;
-      most = read.most;
       few = read.few;
       ends = λ e f. absurd (ran e);
     }
 
-looks_at : (set : Set) (target : Target) (u n : ℕ) (it : Seen) (mode : Mode) (state : LaneState) (s t : ChipState) → 0 < n → TakesLook set target state s → (set ≡ Intel → mode ≡ Status) → (set ≡ Amd → mode ≡ s.mode)
-    → AfterReads (record s { mode = mode }) n t → ToldAt u (record s { mode = mode }) it t → LaneIs state target s → LooksOn set target state (next_state state it) n s t
-looks_at set target u n it mode Running s t some takes status same reads told (inl on, held) =
+looks_at : (set : Set) (target : Target) (u n : ℕ) (it : Seen) (mode : Mode) (state : LaneState) (y s t : ChipState) → SeesErase u y t → 0 < n → TakesLook set target state s → (set ≡ Intel → mode ≡ Status) → (set ≡ Amd → mode ≡ s.mode)
+    → AfterReads (record s { mode = mode }) n t → ToldAt u (record s { mode = mode }) it y → LaneIs state target s → LooksOn set target state (next_state state it) n s t
+looks_at set target u n it mode Running y s t sees some takes status same reads told (inl on, held) =
     let h = erases_after target on.left (record s { mode = mode }) n t on.job reads in
-    looks_running set target u n it mode s t (read_erasing set target n mode s t some takes same on held h) (ran_erasing set target n mode s t takes.waits.set status held on h) told
-looks_at set target u n it mode Running s t some takes status same reads told (inr ended, held) =
+    looks_running set target u n it mode y s t (read_erasing set target n mode s t some takes same on held h) (ran_erasing set target n mode s t takes.waits.set status held on h) told sees
+looks_at set target u n it mode Running y s t sees some takes status same reads told (inr ended, held) =
     let is = idle_after (record s { mode = mode }) n t ended.job reads in
-    looks_running set target u n it mode s t (read_idle set target n mode s t takes.waits takes.names same ended.job held is)
-    (ran_ended set target n mode s t some takes.waits.set status held ended is) told
-looks_at set target u n it mode Suspended s t some takes status same reads told is = absurd (takes.awake refl)
-looks_at set target u n it mode Finished s t some takes status same reads told is =
+    looks_running set target u n it mode y s t (read_idle set target n mode s t takes.waits takes.names same ended.job held is)
+    (ran_ended set target n mode s t some takes.waits.set status held ended is) told sees
+looks_at set target u n it mode Suspended y s t sees some takes status same reads told is = absurd (takes.awake refl)
+looks_at set target u n it mode Finished y s t sees some takes status same reads told is =
     let e = idle_after (record s { mode = mode }) n t is.1.job reads in
     looks_other set target n Finished mode s t (λ e. cc) takes (read_idle set target n mode s t takes.waits takes.names same is.1.job is.1.held e) e
-looks_at set target u n it mode Broken s t some takes status same reads told is =
+looks_at set target u n it mode Broken y s t sees some takes status same reads told is =
     let e = idle_after (record s { mode = mode }) n t is.1.job reads in
     looks_other set target n Broken mode s t (λ e. cc) takes (read_idle set target n mode s t takes.waits takes.names same is.1.job is.1.held e) e
 
-pub looks_on : (set : Set) (target : Target) (u n : ℕ) (it : Seen) (state : LaneState) (s m t : ChipState) → 0 < n → TakesLook set target state s → ShownAs set s m → AfterReads m n t → ToldAt u m it t
+pub looks_on : {W : Type 0} (how : Polling W) (set : Set) (target : Target) (u n : ℕ) (it : Seen) (state : LaneState) (s m t : ChipState) → how ≡ erase_polling set → 0 < n → TakesLook set target state s → ShownAs set s m → AfterReads m n t → ToldAt u m it (viewed how t)
     → LooksOn set target state (next_state state it) n s t
-looks_on set target u n it state s m t some takes now reads told =
-    looks_at set target u n it now.mode state s t some takes now.status now.same (subst (λ (x : ChipState). AfterReads x n t) now.is reads) (subst (λ (x : ChipState). ToldAt u x it t) now.is told) takes.is
+looks_on how set target u n it state s m t is some takes now reads told =
+    looks_at set target u n it now.mode state (viewed how t) s t (sees_erase how set u t is (ap (λ (p : Part). p.set) (part_after m n t reads ∙ ap (λ (x : ChipState). x.part) now.is) ∙ takes.waits.set)) some takes now.status now.same (subst (λ (x : ChipState). AfterReads x n t) now.is reads) (subst (λ (x : ChipState). ToldAt u x it (viewed how t)) now.is told) takes.is
 
 -- ---- a look that was given up
 
-dark_read : (target : Target) (n : ℕ) (s m t : ChipState) → ErasesOn target s ⊎ (s.job ≡ Idle) → s.held ≡ NotHeld → (mode : Mode) → AfterReads (record s { mode = mode }) n m → Darkens m t → ChangesWithinErase target s t
-dark_read target n s m t (inr idle) held mode reads dark =
+no_program : (job : Job) (target : Target) (left : ℕ) → (job ≡ Erase target left) ⊎ (job ≡ Idle) → (p : ℕ) → programs_at job p ≡ false
+no_program job target left (inl e) p = ap (λ (j : Job). programs_at j p) e
+no_program job target left (inr e) p = ap (λ (j : Job). programs_at j p) e
+
+dark_read : (target : Target) (n : ℕ) (s m t : ChipState) → ErasesOn target s ⊎ (s.job ≡ Idle) → (mode : Mode) → AfterReads (record s { mode = mode }) n m → Darkens m t → ChangesWithinErase target s t
+dark_read target n s m t (inr idle) mode reads dark =
     let x = record s { mode = mode } in
     let is = idle_after x n m idle reads in
-    within_mode target mode s t (within_then target x m t (within_idle target x m is) (dark_resting target m t (ap (λ (y : ChipState). y.job) is) (ap (λ (y : ChipState). y.held) is ∙ held) dark))
-dark_read target n s m t (inl on) held mode reads dark = within_mode target mode s t (dark_erase target on.left n (record s { mode = mode }) m t held (erases_after target on.left (record s { mode = mode }) n m on.job reads) dark)
+    within_mode target mode s t (dark_within target x m t (within_idle target x m is) (no_program m.job target 0 (inr (ap (λ (y : ChipState). y.job) is))) dark)
+dark_read target n s m t (inl on) mode reads dark = within_mode target mode s t (dark_erase target on.left n (record s { mode = mode }) m t on.job (erases_after target on.left (record s { mode = mode }) n m on.job reads) dark)
   where
-    dark_erase : (target : Target) (left n : ℕ) (x m t : ChipState) → x.held ≡ NotHeld → Erases target left n x m → Darkens m t → ChangesWithinErase target x t
-    dark_erase target left n x m t held (inl still) dark =
-        within_then target x m t (within_still target left n x m still) (dark_erasing target still.left m t (ap (λ (y : ChipState). y.job) still.is) (ap (λ (y : ChipState). y.held) still.is ∙ held) dark)
-    dark_erase target left n x m t held (inr ended) dark =
-        within_then target x m t (within_ended target left n x m ended) (dark_resting target m t (ap (λ (y : ChipState). y.job) ended.is) (ap (λ (y : ChipState). y.held) ended.is ∙ held) dark)
+    dark_erase : (target : Target) (left n : ℕ) (x m t : ChipState) → x.job ≡ Erase target left → Erases target left n x m → Darkens m t → ChangesWithinErase target x t
+    dark_erase target left n x m t job (inl still) dark =
+        dark_within target x m t (within_still target left n x m job still) (no_program m.job target still.left (inl (ap (λ (y : ChipState). y.job) still.is))) dark
+    dark_erase target left n x m t job (inr ended) dark =
+        dark_within target x m t (within_ended target left n x m job ended) (no_program m.job target 0 (inr (ap (λ (y : ChipState). y.job) ended.is))) dark
 
 pub loses_reads : (set : Set) (target : Target) (state : LaneState) (s m t : ChipState) → TakesLook set target state s → ShownAs set s m → DarkensReading m t → ChangesWithinErase target s t
 loses_reads set target state s m t takes now dark =
     let h = stands state target s takes.is takes.awake in
-    dark_read target dark.0 s dark.1.mid t h.0 h.1 now.mode (subst (λ (x : ChipState). AfterReads x dark.0 dark.1.mid) now.is dark.1.reads) dark.1.dark
+    dark_read target dark.0 s dark.1.mid t h.0 now.mode (subst (λ (x : ChipState). AfterReads x dark.0 dark.1.mid) now.is dark.1.reads) dark.1.dark
 
-dark_first : (target : Target) (s t : ChipState) → (ErasesOn target s ⊎ (s.job ≡ Idle)) → s.held ≡ NotHeld → Darkens s t → ChangesWithinErase target s t
-dark_first target s t (inl on) held dark = dark_erasing target on.left s t on.job held dark
-dark_first target s t (inr idle) held dark = dark_resting target s t idle held dark
+dark_first : (target : Target) (s t : ChipState) → (ErasesOn target s ⊎ (s.job ≡ Idle)) → Darkens s t → ChangesWithinErase target s t
+dark_first target s t (inl on) dark = dark_within target s s t (within_none target s) (no_program s.job target on.left (inl on.job)) dark
+dark_first target s t (inr idle) dark = dark_within target s s t (within_none target s) (no_program s.job target 0 (inr idle)) dark
 
 first_dark : (set : Set) (u : ℕ) (s t : ChipState) → DarkensIn u (cycles_of set ShowStatus) s t → Darkens s t
 first_dark Intel u s t (inl dark) = dark
@@ -426,7 +432,7 @@ first_dark Amd u s t dark = absurd dark
 
 pub loses_showing_status : (set : Set) (u : ℕ) (target : Target) (state : LaneState) (s t : ChipState) → TakesLook set target state s → DarkensIn u (cycles_of set ShowStatus) s t → ChangesWithinErase target s t
 loses_showing_status set u target state s t takes dark =
-    let h = stands state target s takes.is takes.awake in dark_first target s t h.0 h.1 (first_dark set u s t dark)
+    let h = stands state target s takes.is takes.awake in dark_first target s t h.0 (first_dark set u s t dark)
 
 -- the polls of an erase, by the one that was chosen
 pub answers_by : {W : Type 0} (bytes : W → List ℕ) (how : Polling W) (set : Set) (u c : ℕ) (target : Target) (state : LaneState) (s m : ChipState) → how ≡ erase_polling set → TakesLook set target state s → ShownAs set s m

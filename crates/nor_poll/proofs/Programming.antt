@@ -159,14 +159,14 @@ stored_idle kind p bytes reads n s t (inl still) idle = absurd (still_runs t.job
 -- ---- a chip that has reads left
 
 left_now : (left n reads : ℕ) (job : Job) (p : ℕ) (bytes : List ℕ) (stuck own : Bool) → job ≡ Program p bytes left → own ≡ stuck → (stuck ≡ false → left + n ≡ reads) → stuck ≡ false
-    → (0 < reads_left job) ⊎ (own ≡ true) → n < reads
+    → (0 < reads_left job) ⊎ ((runs job ≡ true) × (own ≡ true)) → n < reads
 left_now left n reads job p bytes stuck own is same count free (inl some) =
     let l : reads_left job ≡ left = ap reads_left is in let e : left + n ≡ reads = count free in omega (arith, some, l, e)
-left_now left n reads job p bytes stuck own is same count free (inr never) = let no : true ≡ false = sym never ∙ (same ∙ free) in absurd cc
+left_now left n reads job p bytes stuck own is same count free (inr on) = let no : true ≡ false = sym on.1 ∙ (same ∙ free) in absurd cc
 
-none_left : (job : Job) (stuck own : Bool) → job ≡ Idle → own ≡ stuck → stuck ≡ false → (0 < reads_left job) ⊎ (own ≡ true) → ⊥
+none_left : (job : Job) (stuck own : Bool) → job ≡ Idle → own ≡ stuck → stuck ≡ false → (0 < reads_left job) ⊎ ((runs job ≡ true) × (own ≡ true)) → ⊥
 none_left job stuck own idle same free (inl some) = let l : reads_left job ≡ 0 = ap reads_left idle in omega (arith, some, l)
-none_left job stuck own idle same free (inr never) = let no : true ≡ false = sym never ∙ (same ∙ free) in cc
+none_left job stuck own idle same free (inr on) = let no : true ≡ false = sym on.1 ∙ (same ∙ free) in cc
 
 -- it was read fewer times than a program shows working
 pub works_still : (kind : Set) (p : ℕ) (bytes : List ℕ) (reads n : ℕ) (s t : ChipState) → Programs kind p bytes reads n s t → s.part.stuck ≡ false → HasLeft t → n < reads

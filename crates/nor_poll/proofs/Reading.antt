@@ -1,15 +1,15 @@
 -- Any number of status reads.
-use Rattle.std.proofs.Common.{◌≡◌, ◌≢◌, ◌+◌, ◌≤◌, inl, inr, ℕ, suc, refl, sym, ap, subst, ◌∙◌, arith, Bool, true, false, add-one, Result, Ok, Err, OnErr}
-use Rattle.nor_cell.specs.Chip.{ChipState, Job, Idle, Program, Erase, Pausing, Flags, runs, is_held}
+use Rattle.std.proofs.Common.{◌≡◌, ◌≢◌, ◌+◌, ◌≤◌, inl, inr, ℕ, suc, refl, sym, ap, subst, ◌∙◌, arith, Bool, true, false, add-one, Result, Ok, Err, OnErr, IsErr}
+use Rattle.nor_cell.specs.Chip.{ChipState, Idle, runs, is_held}
 use Rattle.nor_bus.specs.Bus.{BusState, chip_at, lane}
 use Rattle.nor_bus.specs.Cycles.{BusFails}
-use Rattle.nor_bus.specs.Driven.{Went, Lost, EachLane, Darkens}
+use Rattle.nor_bus.specs.Driven.{Went, Lost, EachLane, Darkens, Asks}
 use Rattle.nor_bus.proofs.Driving.{went_then, lost_then, lane_kept}
-use Rattle.nor_poll.specs.Told.{IsLooked, ShowsStatus, Told, seen}
+use Rattle.nor_poll.specs.Told.{IsLooked, ShowsStatus, Told}
 use Rattle.nor_poll.specs.Reads.{AfterReads, NoReads, OneMore, ReadBy, DarkensReading}
 use Rattle.nor_poll.specs.declared.watch.Seen.{Seen}
 use Rattle.nor_poll.specs.declared.watch.Seen.TheVariants.{Working}
-use Rattle.nor_poll.proofs.Telling.{working_runs}
+use Rattle.nor_poll.proofs.Telling.{working_runs, idle_if}
 
 -- one read more
 pub read_more : (n : ℕ) (s m t : ChipState) → AfterReads s n m → IsLooked m t → AfterReads s (n + 1) t
@@ -22,12 +22,6 @@ shows_then m t h k = record { set = ap (λ (x : ChipState). x.part.set) k.rest �
 pub shows_after : (s : ChipState) (n : ℕ) (t : ChipState) → AfterReads s n t → ShowsStatus s → ShowsStatus t
 shows_after s n t NoReads h = h
 shows_after s n t (OneMore {m = m} before look) h = shows_then m t (shows_after s _ m before h) look
-
-idle_if : (job : Job) (held : Bool) (flags : Flags) → seen (runs job) held flags ≢ Working → job ≡ Idle
-idle_if Idle held flags h = refl
-idle_if (Program p bytes left) held flags h = absurd (h refl)
-idle_if (Erase b left) held flags h = absurd (h refl)
-idle_if (Pausing b wait left) held flags h = absurd (h refl)
 
 -- a chip that isn't told to work runs no job, and one that is told so does
 pub told_idle : (s t : ChipState) (it : Seen) → Told s it t → it ≢ Working → t.job ≡ Idle
@@ -50,6 +44,11 @@ darkens old new h = dark_by old.power old new refl h
 pub on_err : {T E : Type 0} (r : Result T E) (P : Type 0) → P → OnErr r P
 on_err (Ok x) P p = tt
 on_err (Err e) P p = p
+
+-- a call gave an error as a cycle failed
+pub asks_lost : {T E : Type 0} (n : ℕ) (r : Result T E) (old new : BusState) → IsErr r → Lost n old new → Asks n r old new
+asks_lost n (Ok x) old new is lost = cc
+asks_lost n (Err e) old new is lost = lost
 
 pub after_then : (s : ChipState) (n : ℕ) (m : ChipState) (k : ℕ) (t : ChipState) → AfterReads s n m → AfterReads m k t → AfterReads s (n + k) t
 after_then s n m k t h NoReads = let e : n ≡ n + 0 = omega arith in subst (λ (i : ℕ). AfterReads s i m) e h

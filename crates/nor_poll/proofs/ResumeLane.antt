@@ -1,17 +1,16 @@
 -- A resume of one lane, by either set.
-use Rattle.std.proofs.Common.{◌≡◌, ◌≢◌, ◌⊎◌, inl, inr, ◌+◌, ◌*◌, ◌<◌, ◌%◌, ◌^◌, ◌||◌, ◌&&◌, ℕ, List, refl, sym, ap, subst, ◌∙◌, arith, Bool, true, false, if◌then◌else◌}
+use Rattle.std.proofs.Common.{◌≡◌, ◌≢◌, ◌⊎◌, inl, inr, ◌+◌, ◌*◌, ◌<◌, ◌%◌, ◌^◌, ◌&&◌, ℕ, refl, sym, ap, subst, ◌∙◌, arith, Bool, true, if◌then◌else◌}
 use Rattle.nor_cell.specs.Bits.{unit_len}
-use Rattle.nor_cell.specs.Chip.{ChipState, Mode, Array, Status, Fault, Rest, Job, Idle, Erase, Target, OneBlock, AllBlocks, Held, NotHeld, Holds, has_blocks, is_held, is_within, covered, reads_left, holds_at}
+use Rattle.nor_cell.specs.Chip.{ChipState, Mode, Array, Status, Fault, Rest, Job, Idle, Erase, Target, OneBlock, AllBlocks, Held, NotHeld, Holds, has_blocks, is_held, reads_left}
 use Rattle.nor_cell.specs.Intel.{commanded}
 use Rattle.nor_cell.specs.Amd.{array_steps}
 use Rattle.nor_cell.specs.Look.{resumed, resumed_from}
-use Rattle.nor_cell.specs.Power.{erases_at, programs_at}
+use Rattle.nor_cell.specs.Power.{programs_at}
 use Rattle.nor_cell.specs.Steps.{written}
 use Rattle.nor_cell.specs.declared.device.Set.{Set}
 use Rattle.nor_cell.specs.declared.device.Set.TheVariants.{Intel, Amd}
 use Rattle.nor_cell.specs.declared.device.Device.{Device}
 use Rattle.nor_cell.specs.declared.device.Device.TheVariants.{X8, X16, X16Byte}
-use Rattle.nor_cell.specs.declared.device.Span.{Span}
 use Rattle.nor_bus.specs.Bus.{wide}
 use Rattle.nor_bus.specs.Driven.{spread, Darkens}
 use Rattle.nor_poll.specs.Erase.{ChangesWithinErase}
@@ -28,7 +27,7 @@ use Rattle.nor_poll.specs.declared.lanes.LaneState.TheVariants.{Running, Suspend
 use Rattle.nor_bus.proofs.Driving.{spread_low}
 use Rattle.nor_poll.proofs.Codes1.{by_step as step_1}
 use Rattle.nor_poll.proofs.Codes2.{by_step as step_2}
-use Rattle.nor_poll.proofs.Erasing.{dark_within, dark_resting}
+use Rattle.nor_poll.proofs.Erasing.{dark_within, within_none}
 
 -- ---- the word
 
@@ -103,6 +102,7 @@ again_waits set b left s takes = record {
 
 resumes_as : (set : Set) (b left : ℕ) (target : Target) (s : ChipState) → TakesResume set target Suspended s → s.held ≡ Holds b left → target ≡ OneBlock b → Resumes set target Suspended s (runs_again set b left s)
 resumes_as set b left target s takes held is = record {
+  is = sym (ap (λ (h : Held). record (resumed_from h s) { mode = work_mode set }) held);
   next = record {
     waits = again_waits set b left s (takes.takes refl);
     names = ap names_job (takes.takes refl).fault;
@@ -138,6 +138,7 @@ ended_waits set s rest = takes_waits set (reset s) (shown_takes set (reset s) re
 
 finished_as : (set : Set) (target : Target) (s : ChipState) → AtRest set s → LaneIs Finished target s → Resumes set target Finished s (reset s)
 finished_as set target s rest is = record {
+  is = refl;
   next = record {
     waits = ended_waits set s rest;
     names = refl;
@@ -154,6 +155,7 @@ finished_as set target s rest is = record {
 
 broken_as : (set : Set) (target : Target) (s : ChipState) → AtRest set s → LaneIs Broken target s → Resumes set target Broken s (reset s)
 broken_as set target s rest is = record {
+  is = refl;
   next = record { waits = ended_waits set s rest; names = refl; is = (is.0, record { job = is.1.job; held = is.1.held }); awake = λ e. cc };
   remains = record { part = refl; size = refl; locks = refl; erases = refl };
   cells = refl;
@@ -179,14 +181,5 @@ resumes set u target Broken s t takes is =
 
 -- ---- a cycle that failed
 
-holds_there : (job : Job) (held : Held) (blocks : List Span) (target : Target) (b left p : ℕ) → job ≡ Idle → held ≡ Holds b left → target ≡ OneBlock b → is_within (covered target blocks) p ≡ false
-    → (erases_at job blocks p || holds_at held blocks p) ≡ false
-holds_there job held blocks target b left p idle is one out = rw (idle, is) (ap (λ (t : Target). is_within (covered t blocks) p) (sym one) ∙ out)
-
 pub loses_resume : (set : Set) (target : Target) (state : LaneState) (s t : ChipState) → TakesResume set target state s → Darkens s t → ChangesWithinErase target s t
-loses_resume set target Running s t takes dark = absurd (takes.idle refl)
-loses_resume set target Suspended s t takes dark =
-    let h = holds_one s.held target takes.is.0 in
-    dark_within target s t (λ p out. holds_there s.job s.held s.part.blocks target h.number h.left p takes.rest.job h.held_is h.target_is out) (λ p. ap (λ (j : Job). programs_at j p) takes.rest.job) dark
-loses_resume set target Finished s t takes dark = dark_resting target s t takes.is.1.job takes.is.1.held dark
-loses_resume set target Broken s t takes dark = dark_resting target s t takes.is.1.job takes.is.1.held dark
+loses_resume set target state s t takes dark = dark_within target s s t (within_none target s) (λ p. ap (λ (j : Job). programs_at j p) takes.rest.job) dark

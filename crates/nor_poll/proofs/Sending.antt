@@ -1,5 +1,6 @@
 -- Command cycles, one after another.
-use Rattle.std.proofs.Common.{◌≡◌, inl, inr, ◌+◌, ◌*◌, ◌<◌, ◌≤◌, ℕ, List, [], ◌∷◌, length, drop, get_or, drop-cons, add-one, refl, sym, ap, subst, ◌∙◌, arith}
+use Rattle.std.proofs.Common.{◌≡◌, inl, inr, ◌+◌, ◌*◌, ◌<◌, ◌≤◌, ◌%◌, ◌^◌, ℕ, List, [], ◌∷◌, length, drop, get_or, drop-cons, add-one, refl, sym, ap, subst, ◌∙◌, arith}
+use Rattle.std.proofs.Math.Nat.{mod-eq_of_lt}
 use Rattle.nor_cell.specs.Bits.{unit_len}
 use Rattle.nor_cell.specs.Amd.{first_address, second_address}
 use Rattle.nor_cell.specs.Chip.{ChipState}
@@ -36,6 +37,12 @@ there First width u g bus wired reaches =
     first_below g.device (units_of bus) (length (lane bus 0).cells) (wide (lane bus 0)) size.0 size.2 least
     (device_of width g.device bus 0 reaches.own.bank (some_lane width g.device bus.lanes reaches.own.bank))
 there Second width u g bus wired reaches = second_below g.device (units_of bus) (bus_units width bus wired).0
+
+-- an address that the bus has is neither wrapped nor taken modulo its units
+pub unwrapped : (v : ℕ) (bus : BusState) → v < units_of bus → units_of bus ≤ 134217728 → reached (v % 2 ^ 32) bus ≡ v
+unwrapped v bus there few =
+    let small : v < 2 ^ 32 = omega (arith, there, few) in
+    let e : v % 2 ^ 32 ≡ v = mod-eq_of_lt small in ap (λ (n : ℕ). n % units_of bus) e ∙ mod-eq_of_lt there
 
 -- ---- some of the cycles were written
 

@@ -1,5 +1,5 @@
 -- What the command cycles of either set make of a chip.
-use Rattle.std.proofs.Common.{◌≡◌, inl, inr, ◌+◌, ◌*◌, ◌≤◌, ◌==◌, ℕ, List, length, refl, sym, ap, subst, ◌∙◌, arith, Bool, true, false, if◌then◌else◌, min, []}
+use Rattle.std.proofs.Common.{◌≡◌, inl, inr, ◌+◌, ◌-◌, ◌*◌, ◌≤◌, ◌==◌, ℕ, List, length, slice_index, refl, sym, ap, subst, ◌∙◌, arith, Bool, true, false, if◌then◌else◌, min, []}
 use Rattle.nor_cell.specs.Bits.{unit_bytes}
 use Rattle.nor_cell.specs.Chip.{ChipState, ProgramNext, place}
 use Rattle.nor_cell.specs.Amd.{goes_to}
@@ -11,7 +11,7 @@ use Rattle.nor_word.specs.Word.{lane_of}
 use Rattle.nor_bus.specs.Bus.{wide}
 use Rattle.nor_poll.specs.Codes.{cycles_of, after_cycles, DarkensIn}
 use Rattle.nor_bus.specs.Driven.{Darkens}
-use Rattle.nor_poll.specs.Polled.{Answers, polling_for, working_reads}
+use Rattle.nor_poll.specs.Polled.{Answers, polling_for, working_reads, viewed}
 use Rattle.nor_poll.specs.Rest.{Resets, Settles, SettlesUnbroken, settled}
 use Rattle.nor_cell.specs.Between.{AtRest, IsClear, reset}
 use Rattle.nor_poll.specs.Losing.{LosesNone}
@@ -53,9 +53,6 @@ resets_by Amd u s rest = clears_2 u s rest
 
 pub resets : (set : Set) (u : ℕ) (s t : ChipState) → t ≡ after_cycles u (cycles_of set Reset) s → Resets set s t
 resets set u s t is rest = is ∙ leads_to u s (cycles_of set Reset) s (reset s) (resets_by set u s rest)
-
-pub loses_resetting : (set : Set) (u : ℕ) (s t : ChipState) → DarkensIn u (cycles_of set Reset) s t → LosesNone (AtRest set) s t
-loses_resetting set u s t dark rest = leads_dark 0 [] u s (cycles_of set Reset) s (reset s) t rest.job (resets_by set u s rest) dark
 
 -- the array is shown by one cycle, which is the first
 loses_first : (set : Set) (u : ℕ) (s t : ChipState) → DarkensIn u (cycles_of set ShowArray) s t → Darkens s t
@@ -108,7 +105,11 @@ shows_datum u v s takes = record {
   set = takes.takes.rest.set;
   mode = refl;
   free = takes.outside refl;
-  job = (refl, refl);
+  job = record {
+    from = omega arith;
+    end = refl;
+    same = λ i below. let p = place s.part u in let e : p - p + i ≡ i = omega arith in ap (slice_index (unit_bytes s.part.device v)) e;
+  };
   fault = subst (λ f. IsProgramFault (place s.part u) (unit_bytes s.part.device v) f) (sym takes.takes.fault) tt;
 }
 
@@ -129,6 +130,18 @@ answers_own Amd g bytes new u c s b begins takes = answers_amd bytes new (g.lane
 pub answers_begun : {W : Type 0} (set : Set) (g : Geometry) (bytes : W → List ℕ) (new : W) (how : Polling W) (u c : ℕ) (s b : ChipState) → how ≡ polling_for set g new
     → BeginsWord set u (lane_of (wide s) (bytes new) c) s b → TakesProgram set u s → Answers bytes how u c b
 answers_begun set g bytes new how u c s b is begins takes = subst (λ (p : Polling _). Answers bytes p u c b) (sym is) (answers_own set g bytes new u c s b begins takes)
+
+-- such polls see all of the chip
+views_amd : {W : Type 0} (new : W) (one : Bool) (t : ChipState) → viewed (if one then Data new else Toggle) t ≡ t
+views_amd new true t = refl
+views_amd new false t = refl
+
+views_own : {W : Type 0} (set : Set) (g : Geometry) (new : W) (t : ChipState) → viewed (polling_for set g new) t ≡ t
+views_own Intel g new t = refl
+views_own Amd g new t = views_amd new (g.lanes == 1) t
+
+pub views_all : {W : Type 0} (set : Set) (g : Geometry) (new : W) (how : Polling W) (t : ChipState) → how ≡ polling_for set g new → viewed how t ≡ t
+views_all set g new how t is = ap (λ (p : Polling _). viewed p t) is ∙ views_own set g new t
 
 -- ---- how many cycles there are
 

@@ -13,11 +13,12 @@ use Rattle.nor_cell.specs.declared.device.Set.{Set}
 use Rattle.nor_cell.specs.declared.device.Set.TheVariants.{Amd}
 use Rattle.nor_word.specs.Word.{lane_of}
 use Rattle.nor_poll.specs.Told.{IsLooked, ToldAt, seen_fault}
-use Rattle.nor_poll.specs.Toggles.{is_complement, data_says, pair_says, names_job, EndsAt, ShowsToggle, IsProgram, IsProgramFault, ShowsDatum, TellsDatum}
+use Rattle.nor_poll.specs.Toggles.{is_complement, data_says, pair_says, names_job, EndsAt, EndsWith, ShowsToggle, IsProgram, IsProgramFault, ShowsDatum, TellsDatum}
 use Rattle.nor_poll.specs.declared.watch.Seen.{Seen}
 use Rattle.nor_poll.specs.declared.watch.Seen.TheVariants.{Ready}
 use Rattle.nor_poll.proofs.Looking.{looked_by}
 use Rattle.nor_cell.proofs.Loading.{length-unit_bytes}
+use Rattle.nor_cell.proofs.Logic.{some_bytes}
 use Rattle.nor_poll.proofs.Toggling.{program_status}
 use Rattle.nor_poll.proofs.Answering.{amd_reads, told_now, told_pair}
 
@@ -26,9 +27,8 @@ use Rattle.nor_poll.proofs.Answering.{amd_reads, told_now, told_pair}
 ends_by : (job : Job) (held : Held) (part : Part) (u v : ℕ) → IsProgram (place part u) (unit_bytes part.device v) job → holds_at held part.blocks (place part u) ≡ false → EndsAt job held part u
 ends_by Idle held part u v h free = tt
 ends_by (Program p bytes left) held part u v h free =
-    let from : p ≡ place part u = h.0 in
-    let size : length bytes ≡ unit_len part.device = ap length h.1 ∙ length-unit_bytes part.device v in
-    (omega (arith, from), omega (arith, from, size), free)
+    let size = length-unit_bytes part.device v in
+    let end = h.end in (h.from, omega (arith, end, size), free)
 ends_by (Erase target left) held part u v h free = absurd h
 ends_by (Pausing b wait left) held part u v h free = absurd h
 
@@ -114,20 +114,27 @@ broken_complement true false = refl
 broken_complement false true = refl
 broken_complement false false = refl
 
-low_by : (d : Device) (v : ℕ) → slice_index (unit_bytes d v) (length (unit_bytes d v) - unit_len d) ≡ v % 256
-low_by X8 v = refl
-low_by X16 v = refl
-low_by X16Byte v = refl
+first_low : (d : Device) (v : ℕ) → slice_index (unit_bytes d v) 0 ≡ v % 256
+first_low X8 v = refl
+first_low X16 v = refl
+first_low X16Byte v = refl
 
-low_bit : (part : Part) (v : ℕ) (bytes : List ℕ) → bytes ≡ unit_bytes part.device v → nat_lt (last_low part bytes) 0x80 ≡ nat_lt (v % 256) 0x80
-low_bit part v bytes e = ap (λ (x : List ℕ). nat_lt (last_low part x) 0x80) e ∙ ap (λ (n : ℕ). nat_lt n 0x80) (low_by part.device v)
+-- its last unit is v
+low_bit : (part : Part) (u v q : ℕ) (more : List ℕ) → EndsWith (place part u) (unit_bytes part.device v) q more → nat_lt (last_low part more) 0x80 ≡ nat_lt (v % 256) 0x80
+low_bit part u v q more h =
+    let size = length-unit_bytes part.device v in
+    let from = h.from in
+    let end = h.end in
+    let at : length more - unit_len part.device ≡ place part u - q + 0 = omega (arith, size, from, end) in
+    let is : last_low part more ≡ v % 256 = ap (slice_index more) at ∙ (h.same 0 (omega (arith, size, some_bytes part.device)) ∙ first_low part.device v) in
+    ap (λ (n : ℕ). nat_lt n 0x80) is
 
 rests_by : (u v : ℕ) (t : ChipState) (job : Job) → IsProgram (place t.part u) (unit_bytes t.part.device v) job → is_complement v (shown (record t { job = job }) u) ≡ false → job ≡ Idle
 rests_by u v t Idle h far = refl
 rests_by u v t (Program q more left) h far =
     let x = nat_lt (v % 256) 0x80 in
     let same : is_complement v (program_status (nat_lt (last_low t.part more) 0x80) t.toggle_6) ≡ true =
-    ap (λ (b : Bool). bit_and (program_status b t.toggle_6) 0x80 == bit_if 0x80 x) (low_bit t.part v more h.1) ∙ complement x t.toggle_6 in
+    ap (λ (b : Bool). bit_and (program_status b t.toggle_6) 0x80 == bit_if 0x80 x) (low_bit t.part u v q more h) ∙ complement x t.toggle_6 in
     let no : false ≡ true = sym far ∙ same in absurd cc
 rests_by u v t (Erase target left) h far = absurd h
 rests_by u v t (Pausing b wait left) h far = absurd h
@@ -139,7 +146,7 @@ whole_by u v t (TimeFault Idle) h far = let no : false ≡ true = h.0 in absurd 
 whole_by u v t (TimeFault (Program q more left)) h far =
     let x = nat_lt (v % 256) 0x80 in
     let same : is_complement v (program_status (nat_lt (last_low t.part more) 0x80) t.toggle_6 + 0x20) ≡ true =
-    ap (λ (b : Bool). bit_and (program_status b t.toggle_6 + 0x20) 0x80 == bit_if 0x80 x) (low_bit t.part v more h.1.1) ∙ broken_complement x t.toggle_6 in
+    ap (λ (b : Bool). bit_and (program_status b t.toggle_6 + 0x20) 0x80 == bit_if 0x80 x) (low_bit t.part u v q more h.1) ∙ broken_complement x t.toggle_6 in
     let no : false ≡ true = sym far ∙ same in absurd cc
 whole_by u v t (TimeFault (Erase target left)) h far = absurd h.1
 whole_by u v t (TimeFault (Pausing b wait left)) h far = absurd h.1

@@ -9,15 +9,16 @@ use Rattle.nor_word.specs.Word.{lane_of}
 use Rattle.nor_bus.specs.Bus.{BusState, lane, lanes_of, wide}
 use Rattle.nor_bus.specs.Driven.{AllLanes}
 use Rattle.nor_bus.proofs.Driving.{went_none, lane_kept}
-use Rattle.nor_poll.specs.Told.{ToldAt}
+use Rattle.nor_poll.specs.Told.{ToldAt, seen_idle}
+use Rattle.nor_cell.specs.declared.device.Set.{Set}
 use Rattle.nor_poll.specs.Toggles.{ShowsToggle, ShowsDatum}
 use Rattle.nor_poll.specs.Reads.{AfterReads, NoReads, OneMore, WorksAfter, ReadBy, SomeLeft}
-use Rattle.nor_poll.specs.Polled.{Answers, InTime, working_reads, most_reads}
+use Rattle.nor_poll.specs.Polled.{Answers, InTime, working_reads, most_reads, viewed}
 use Rattle.nor_poll.specs.Wait.{AllAnswer, IsReady, WorksFor, wait_most, wait_prompt}
 use Rattle.nor_poll.specs.declared.watch.Seen.{Seen}
 use Rattle.nor_poll.specs.declared.watch.Seen.TheVariants.{Working, Ready}
 use Rattle.nor_poll.specs.declared.polling.Polling.{Polling}
-use Rattle.nor_poll.specs.declared.polling.Polling.TheVariants.{Status, Toggle, Data}
+use Rattle.nor_poll.specs.declared.polling.Polling.TheVariants.{Status, EraseStatus, Toggle, Data}
 use Rattle.nor_poll.proofs.Answering.{shows_next}
 use Rattle.nor_poll.proofs.Showing.{datum_next}
 use Rattle.nor_poll.proofs.Reading.{read_then, after_then, shows_after}
@@ -38,10 +39,37 @@ part_after s n t (OneMore {m = m} before look) = ap (λ (x : ChipState). x.part)
 
 pub answers_after : {W : Type 0} (bytes : W → List ℕ) (how : Polling W) (u c : ℕ) (s : ChipState) (n : ℕ) (t : ChipState) → AfterReads s n t → Answers bytes how u c s → Answers bytes how u c t
 answers_after bytes Status u c s n t reads h = shows_after s n t reads h
+answers_after bytes EraseStatus u c s n t reads h = shows_after s n t reads h
 answers_after bytes Toggle u c s n t reads h = toggles_after u s n t reads h
 answers_after bytes (Data datum) u c s n t reads h =
     subst (λ (p : Part). ShowsDatum u (lane_of (unit_len p.device) (bytes datum) c) t) (sym (part_after s n t reads))
     (datum_after u (lane_of (wide s) (bytes datum) c) s n t reads h)
+
+-- a poll sees of the chip what it is and what it runs
+viewed_job : {W : Type 0} (how : Polling W) (t : ChipState) → (viewed how t).job ≡ t.job
+viewed_job Status t = refl
+viewed_job EraseStatus t = refl
+viewed_job Toggle t = refl
+viewed_job (Data datum) t = refl
+
+pub viewed_set : {W : Type 0} (how : Polling W) (t : ChipState) → (viewed how t).part.set ≡ t.part.set
+viewed_set Status t = refl
+viewed_set EraseStatus t = refl
+viewed_set Toggle t = refl
+viewed_set (Data datum) t = refl
+
+-- no job of the chip runs any more, and of it was told what stands there
+abbrev pub IsEnded : ℕ → ChipState → Seen → ChipState → Type 0
+IsEnded u s it t = IsReady {W = ℕ} Toggle u s it t
+
+-- so it is after polls that see all of the chip
+pub ended_by : {W : Type 0} (how : Polling W) (u : ℕ) (s t : ChipState) (it : Seen) → viewed how t ≡ t → IsReady how u s it t → IsEnded u s it t
+ended_by how u s t it all ready = record {
+  polls = ready.polls;
+  reads = ready.reads;
+  job = ready.job;
+  told = ready.told ∙ ap (seen_idle t.part.set u) all;
+}
 
 -- ---- the polls so far
 
@@ -54,7 +82,7 @@ worked_none bytes how u old = record { works = λ some. absurd (omega arith) }
 
 -- what is told of each lane
 abbrev pub ToldLanes : {W : Type 0} (bytes : W → List ℕ) → Polling W → ℕ → (ℕ → Seen) → BusState → BusState → Type 0
-ToldLanes bytes how u f mid after = (c : ℕ) → c < lanes_of mid → Answers bytes how u c (lane mid c) → ToldAt u (lane mid c) (f c) (lane after c)
+ToldLanes bytes how u f mid after = (c : ℕ) → c < lanes_of mid → Answers bytes how u c (lane mid c) → ToldAt u (lane mid c) (f c) (viewed how (lane after c))
 
 reads_of : (r k : ℕ) → r * (k + 1) - r ≡ r * k
 reads_of r k = omega arith
@@ -81,7 +109,7 @@ pub lower_rest : {W : Type 0} (bytes : W → List ℕ) (how : Polling W) (u l m 
     → ((c : ℕ) → c < k → f c ≢ Working) → (c : ℕ) → c < k → Answers bytes how u c (lane old c) → (lane after c).job ≡ Idle
 lower_rest bytes how u l m k f old mid after read told there none c lower answers =
     let below : c < lanes_of old = omega (arith, lower, there) in
-    (told c (lane_kept old mid c read.went.kept below) (answers_after bytes how u c (lane old c) read.reads (lane mid c) (read.each c below) answers)).idle (none c lower)
+    sym (viewed_job how (lane after c)) ∙ (told c (lane_kept old mid c read.went.kept below) (answers_after bytes how u c (lane old c) read.reads (lane mid c) (read.each c below) answers)).idle (none c lower)
 
 -- no poll yet
 pub no_polls : (r : ℕ) (old : BusState) → ReadBy (r * 0) (r * 0) old old
@@ -91,7 +119,7 @@ no_polls r old = record { reads = 0; enough = omega arith; few = omega arith; we
 
 pub ends_waiting : {W : Type 0} (bytes : W → List ℕ) (how : Polling W) (u l m n q : ℕ) (f : ℕ → Seen) (old mid after : BusState) → ReadBy l m old mid → ReadBy n q mid after
     → ToldLanes bytes how u f mid after → lanes_of old ≤ 4 → ((c : ℕ) → c < 4 → f c ≢ Working)
-    → (c : ℕ) → c < lanes_of old → Answers bytes how u c (lane old c) → IsReady u (lane old c) (f c) (lane after c)
+    → (c : ℕ) → c < lanes_of old → Answers bytes how u c (lane old c) → IsReady how u (lane old c) (f c) (lane after c)
 ends_waiting bytes how u l m n q f old mid after read last told few none c below answers =
     let there = lane_kept old mid c read.went.kept below in
     let it = told c there (answers_after bytes how u c (lane old c) read.reads (lane mid c) (read.each c below) answers) in
@@ -99,13 +127,14 @@ ends_waiting bytes how u l m n q f old mid after read last told few none c below
     record {
       polls = read.reads + last.reads;
       reads = after_then (lane old c) read.reads (lane mid c) last.reads (lane after c) (read.each c below) (last.each c there);
-      job = it.idle rests;
-      told = it.is rests;
+      job = sym (viewed_job how (lane after c)) ∙ it.idle rests;
+      told = it.is rests ∙ ap (λ (k : Set). seen_idle k u (viewed how (lane after c))) (viewed_set how (lane after c));
     }
 
 -- all polls fit
 pub polls_fit : {W : Type 0} (how : Polling W) (k limit : ℕ) → k < limit → working_reads how * k + most_reads how ≤ wait_most how limit
 polls_fit Status k limit h = omega arith
+polls_fit EraseStatus k limit h = omega arith
 polls_fit Toggle k limit h = omega arith
 polls_fit (Data datum) k limit h = omega arith
 
@@ -113,6 +142,8 @@ polls_fit (Data datum) k limit h = omega arith
 prompt_by : {W : Type 0} (how : Polling W) (n most : ℕ) → n ≡ 0 ⊎ (n < most + working_reads how) → n + working_reads how ≤ wait_prompt how most
 prompt_by Status n most (inl h) = omega arith
 prompt_by Status n most (inr h) = omega arith
+prompt_by EraseStatus n most (inl h) = omega arith
+prompt_by EraseStatus n most (inr h) = omega arith
 prompt_by Toggle n most (inl h) = omega arith
 prompt_by Toggle n most (inr h) = omega arith
 prompt_by (Data datum) n most (inl h) = omega arith
@@ -120,6 +151,7 @@ prompt_by (Data datum) n most (inr h) = omega arith
 
 late_by : {W : Type 0} (how : Polling W) (n most : ℕ) → n < most → n + most_reads how ≤ wait_prompt how most
 late_by Status n most h = omega arith
+late_by EraseStatus n most h = omega arith
 late_by Toggle n most h = omega arith
 late_by (Data datum) n most h = omega arith
 

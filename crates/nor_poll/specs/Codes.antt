@@ -12,7 +12,7 @@ use Rattle.nor_poll.specs.declared.codes.To.{To}
 use Rattle.nor_poll.specs.declared.codes.To.TheVariants.{Here, First, Second}
 use Rattle.nor_poll.specs.declared.codes.Cycle.{Cycle}
 use Rattle.nor_poll.specs.declared.codes.Command.{Command}
-use Rattle.nor_poll.specs.declared.codes.Command.TheVariants.{ProgramWord, EraseBlock, EraseAll, SuspendErase, ShowStatus, ClearErrors, ShowArray, Reset}
+use Rattle.nor_poll.specs.declared.codes.Command.TheVariants.{ProgramWord, EraseBlock, EraseAll, SuspendErase, ShowStatus, ClearErrors, ShowArray, Reset, LockBlock, UnlockBlock, ShowLocks, LeaveLocks, LoadBuffer, ConfirmLoad}
 
 -- the call's own address, or a command address of the device
 abbrev pub address : Device → ℕ → To → ℕ
@@ -37,6 +37,12 @@ cycles_of Intel ShowStatus = code 0x70 Here ∷ []
 cycles_of Intel ClearErrors = code 0x50 Here ∷ code 0xFF Here ∷ []
 cycles_of Intel ShowArray = code 0xFF Here ∷ []
 cycles_of Intel Reset = code 0xFF Here ∷ []
+cycles_of Intel LockBlock = code 0x60 Here ∷ code 0x01 Here ∷ []
+cycles_of Intel UnlockBlock = code 0x60 Here ∷ code 0xD0 Here ∷ []
+cycles_of Intel ShowLocks = code 0x90 Here ∷ []
+cycles_of Intel LeaveLocks = code 0xFF Here ∷ []
+cycles_of Intel LoadBuffer = code 0x50 Here ∷ code 0xE8 Here ∷ []
+cycles_of Intel ConfirmLoad = code 0xD0 Here ∷ []
 cycles_of Amd ProgramWord = unlocked (code 0xA0 First ∷ [])
 cycles_of Amd EraseBlock = unlocked (code 0x80 First ∷ unlocked (code 0x30 Here ∷ []))
 cycles_of Amd EraseAll = unlocked (code 0x80 First ∷ unlocked (code 0x10 First ∷ []))
@@ -45,6 +51,12 @@ cycles_of Amd ShowStatus = []
 cycles_of Amd ClearErrors = code 0xF0 Here ∷ []
 cycles_of Amd ShowArray = []
 cycles_of Amd Reset = code 0xF0 Here ∷ []
+cycles_of Amd LockBlock = unlocked (code 0xE0 First ∷ code 0xA0 Here ∷ code 0x00 Here ∷ [])
+cycles_of Amd UnlockBlock = unlocked (code 0xE0 First ∷ code 0xA0 Here ∷ code 0x01 Here ∷ [])
+cycles_of Amd ShowLocks = unlocked (code 0xE0 First ∷ [])
+cycles_of Amd LeaveLocks = code 0x90 Here ∷ code 0x00 Here ∷ []
+cycles_of Amd LoadBuffer = unlocked (code 0x25 Here ∷ [])
+cycles_of Amd ConfirmLoad = code 0x29 Here ∷ []
 
 -- how many they are
 abbrev pub cycle_count : Set → Command → ℕ

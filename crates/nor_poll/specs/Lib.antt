@@ -1,8 +1,11 @@
 pub mod Codes
+pub mod Lock
+pub mod Buffer
 pub mod Losing
 pub mod Polled
 pub mod Reads
 pub mod Register
+pub mod Readings
 pub mod Toggles
 pub mod Rest
 pub mod Told

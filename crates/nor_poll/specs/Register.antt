@@ -12,3 +12,7 @@ status_says status =
     else if not (bit_and status 0x10 == 0) then Broken Program
     else if not (bit_and status 0x40 == 0) then Suspended
     else Ready
+
+-- what a poll in an erase looks at: all but bit 4
+abbrev pub heeded : ℕ → ℕ
+heeded status = bit_and status 0xEF

@@ -1,5 +1,5 @@
 -- What reads of a chip of set 0002 tell, by the bits that toggle.
-use Rattle.std.specs.Prelude.{◌≡◌, ◌≤◌, ◌+◌, ◌%◌, ◌==◌, ◌&&◌, ◌||◌, ℕ, Bool, true, false, List, length, bit_and, bit_or, bit_xor, nat_lt, if◌then◌else◌}
+use Rattle.std.specs.Prelude.{◌≡◌, ◌<◌, ◌≤◌, ◌+◌, ◌-◌, ◌%◌, ◌==◌, ◌&&◌, ◌||◌, ℕ, Bool, true, false, List, length, slice_index, bit_and, bit_or, bit_xor, nat_lt, if◌then◌else◌}
 use Rattle.nor_cell.specs.Bits.{unit_len, unit_bytes}
 use Rattle.nor_cell.specs.Chip.{ChipState, Part, Array, Job, Idle, Program, Erase, Pausing, Held, Fault, NoFault, TimeFault, AbortFault, runs, place, holds_at}
 use Rattle.nor_cell.specs.Shown.{bit_if}
@@ -78,10 +78,16 @@ pub record ShowsToggle (u : ℕ) (s : ChipState) : Type 0 where
   pub mode : is_fault s.fault ≡ false → s.mode ≡ Array
   pub ends : EndsAt s.job s.held s.part u
 
--- the job is none, or programs these bytes from place p on
+-- a program of more bytes from place q on ends with these, at place p
+pub record EndsWith (p : ℕ) (bytes : List ℕ) (q : ℕ) (more : List ℕ) : Type 0 where
+  pub from : q ≤ p
+  pub end : p + length bytes ≡ q + length more
+  pub same : (i : ℕ) → i < length bytes → slice_index more (p - q + i) ≡ slice_index bytes i
+
+-- the job is none, or ends with these bytes at place p
 abbrev pub IsProgram : ℕ → List ℕ → Job → Type 0
 IsProgram p bytes Idle = Unit {0}
-IsProgram p bytes (Program q more left) = (q ≡ p) × (more ≡ bytes)
+IsProgram p bytes (Program q more left) = EndsWith p bytes q more
 IsProgram p bytes (Erase target left) = ⊥
 IsProgram p bytes (Pausing b wait left) = ⊥
 
@@ -91,7 +97,7 @@ IsProgramFault p bytes NoFault = Unit {0}
 IsProgramFault p bytes (TimeFault job) = (runs job ≡ true) × IsProgram p bytes job
 IsProgramFault p bytes AbortFault = ⊥
 
--- The chip programs v at unit u, or has ended so.
+-- The chip programs v at unit u, after other units or none, or has ended so.
 pub record ShowsDatum (u v : ℕ) (s : ChipState) : Type 0 where
   pub set : s.part.set ≡ Amd
   pub mode : s.mode ≡ Array

@@ -37,15 +37,19 @@ abbrev pub seen_idle : Set → ℕ → ChipState → Seen
 seen_idle Intel u s = seen false (is_held s.held) s.flags
 seen_idle Amd u s = seen_fault s.fault (holds_at s.held s.part.blocks (place s.part u))
 
+-- the chip with no error of a program, as a poll in an erase sees it
+abbrev pub past_program : ChipState → ChipState
+past_program s = record s { flags = record { erase = s.flags.erase; program = false; locked = s.flags.locked } }
+
 -- A read has looked at the chip, and changed no more than a look does, and the toggle bits of a chip of set 0002.
 pub record IsLooked (s t : ChipState) : Type 0 where
   pub cells : LooksTo s (look s) t.cells
   pub rest : t ≡ record (looked (look s) s) { cells = t.cells; toggle_6 = t.toggle_6; toggle_2 = t.toggle_2 }
   pub still : s.part.set ≡ Intel → (t.toggle_6 ≡ s.toggle_6) × (t.toggle_2 ≡ s.toggle_2)
 
--- its job has reads left, or it is stuck
+-- a job runs in it, which has reads left, or the chip is stuck
 abbrev pub HasLeft : ChipState → Type 0
-HasLeft s = (0 < reads_left s.job) ⊎ (s.part.stuck ≡ true)
+HasLeft s = (0 < reads_left s.job) ⊎ ((runs s.job ≡ true) × (s.part.stuck ≡ true))
 
 -- The chip went from s to t in a poll of unit u, which told this of it: that it works, which it did at the first read, or else
 -- what it is at after the last.
@@ -61,6 +65,9 @@ pub record Told (s : ChipState) (it : Seen) (t : ChipState) : Type 0 where
   -- a chip that is told to work had reads left, or is stuck
   pub had : it ≡ Working → HasLeft s
 
--- so it is with a chip that shows its status
+-- so it is with a chip that shows its status; a poll in an erase looks past the error of a program
 abbrev pub TellsStatus : ChipState → Seen → ChipState → Type 0
 TellsStatus s it t = ShowsStatus s → Told s it t
+
+abbrev pub TellsErase : ℕ → ChipState → Seen → ChipState → Type 0
+TellsErase u s it t = ShowsStatus s → ToldAt u s it (past_program t)

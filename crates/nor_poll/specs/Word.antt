@@ -12,7 +12,7 @@ use Rattle.nor_bus.specs.Bus.{BusState, lane, lanes_of, wide}
 use Rattle.nor_bus.specs.Driven.{Reaches, Went, Lost, AllLanes, Counted, EachPart}
 use Rattle.nor_poll.specs.Losing.{Tears, Loses}
 use Rattle.nor_poll.specs.Rest.{settled, cleared_flags}
-use Rattle.nor_poll.specs.Words.{word_reads, unit_breaks, StoresUnit, OnlyClears, HoldsUnit}
+use Rattle.nor_poll.specs.Words.{word_reads, breaks, unit_breaks, Stores, ClearsBits, HoldsBytes}
 use Rattle.nor_poll.specs.declared.lanes.LaneSet.{LaneSet}
 use Rattle.nor_poll.specs.declared.lanes.Halt.{Halt}
 use Rattle.nor_poll.specs.declared.lanes.Halt.TheVariants.{Off, Stuck}
@@ -41,13 +41,18 @@ programming kind p bytes left s = record s { mode = work_mode kind; step = Rest;
 abbrev pub BeginsWord : Set → ℕ → ℕ → ChipState → ChipState → Type 0
 BeginsWord kind u v s t = TakesProgram kind u s → t ≡ programming kind (place s.part u) (unit_bytes s.part.device v) (word_reads s) s
 
--- Unit u has become old AND v, which is v where v has no bit that it lacked; or bits between, where it broke off. All else
--- is as before, but for the toggle bits of set 0002; the array is shown, and no error stands.
-pub record WordDone (kind : Set) (u v : ℕ) (s t : ChipState) : Type 0 where
-  pub cells : StoresUnit u v s t.cells
-  pub holds : unit_breaks u v s ≡ false → OnlyClears s.part u v s.cells → HoldsUnit s.part u v t.cells
+-- These bytes were programmed from place p on: the cells have become old AND new, which is new where new has no bit that old
+-- lacked; or bits between, from where the program broke off. All else is as before, but for the toggle bits of set 0002; the
+-- array is shown, and no error stands.
+pub record ProgramDone (kind : Set) (p : ℕ) (bytes : List ℕ) (s t : ChipState) : Type 0 where
+  pub cells : Stores p bytes s t.cells
+  pub holds : breaks p bytes s ≡ false → ClearsBits p bytes s.cells → HoldsBytes p bytes t.cells
   pub rest : t ≡ record (settled kind s) { cells = t.cells; toggle_6 = t.toggle_6; toggle_2 = t.toggle_2 }
   pub still : kind ≡ Intel → (t.toggle_6 ≡ s.toggle_6) × (t.toggle_2 ≡ s.toggle_2)
+
+-- so it is with v at unit u
+abbrev pub WordDone : Set → ℕ → ℕ → ChipState → ChipState → Type 0
+WordDone kind u v s t = ProgramDone kind (place s.part u) (unit_bytes s.part.device v) s t
 
 abbrev pub ProgramsWord : Set → ℕ → ℕ → ChipState → ChipState → Type 0
 ProgramsWord kind u v s t = TakesProgram kind u s → WordDone kind u v s t

@@ -1,7 +1,7 @@
 -- Programming a bus word, in the words that both command sets use.
 use Rattle.std.specs.Prelude.{◌≡◌, ◌<◌, ◌+◌, ℕ, List, Bool, length, slice_index, bit_and, is_some}
 use Rattle.nor_cell.specs.Bits.{unit_len, unit_bytes}
-use Rattle.nor_cell.specs.Chip.{ChipState, Part, place}
+use Rattle.nor_cell.specs.Chip.{ChipState, place}
 use Rattle.nor_cell.specs.Look.{break_of, Programmed}
 use Rattle.nor_cell.specs.Table.{left_at_start}
 use Rattle.nor_cell.specs.declared.device.Work.TheVariants.{Word}
@@ -22,14 +22,10 @@ Stores p bytes s cells = Programmed (unit_len s.part.device) s.part.weak p bytes
 abbrev pub unit_breaks : ℕ → ℕ → ChipState → Bool
 unit_breaks u v s = breaks (place s.part u) (unit_bytes s.part.device v) s
 
-abbrev pub StoresUnit : ℕ → ℕ → ChipState → List ℕ → Type 0
-StoresUnit u v s cells = Stores (place s.part u) (unit_bytes s.part.device v) s cells
+-- no datum has a bit that its byte lacks
+abbrev pub ClearsBits : ℕ → List ℕ → List ℕ → Type 0
+ClearsBits p bytes cells = (i : ℕ) → i < length bytes → bit_and (slice_index cells (p + i)) (slice_index bytes i) ≡ slice_index bytes i
 
--- v has no bit that unit u lacks
-abbrev pub OnlyClears : Part → ℕ → ℕ → List ℕ → Type 0
-OnlyClears part u v cells =
-    (i : ℕ) → i < length (unit_bytes part.device v) → bit_and (slice_index cells (place part u + i)) (slice_index (unit_bytes part.device v) i) ≡ slice_index (unit_bytes part.device v) i
-
--- unit u is v
-abbrev pub HoldsUnit : Part → ℕ → ℕ → List ℕ → Type 0
-HoldsUnit part u v cells = (i : ℕ) → i < length (unit_bytes part.device v) → slice_index cells (place part u + i) ≡ slice_index (unit_bytes part.device v) i
+-- these bytes stand from place p on
+abbrev pub HoldsBytes : ℕ → List ℕ → List ℕ → Type 0
+HoldsBytes p bytes cells = (i : ℕ) → i < length bytes → slice_index cells (p + i) ≡ slice_index bytes i

@@ -9,6 +9,7 @@ ghost use Rattle.nor_poll.specs.Told.{seen_at};
 ghost use Rattle.nor_poll.specs.Toggles.{is_complement, data_says, TellsDatum};
 
 use crate::look::look;
+use crate::readings::{Readings, watch_of};
 use crate::toggle::pair_of;
 use crate::{Seen, Watch};
 use nor_bus::{Bus, Off, lane_bytes};
@@ -27,7 +28,7 @@ fn complements(datum: u16, status: u16) -> bool
 }
 
 // What two answers tell of a lane that programs this datum.
-fn data_of(datum: u16, first: u16, second: u16) -> Seen
+pub fn data_of(datum: u16, first: u16, second: u16) -> Seen
     ensures { result ≡ data_says datum first second }
 {
     if complements(datum, second) {
@@ -50,23 +51,6 @@ fn all_shown<W: BusWord>(datum: W, word: W, g: Geometry) -> bool
         }
     }
     true
-}
-
-// What two words tell of all lanes.
-fn data_watch<W: BusWord>(datum: W, first: W, second: W, g: Geometry) -> Watch
-    requires wiring { IsTrue (is_wiring W.WIDTH g.lanes g.device) }
-    ensures told { (c : ℕ) → c < g.lanes
-        → seen_at result.lanes c ≡ data_says (lane_of (unit_len g.device) (W.bytes datum) c)
-        (lane_of (unit_len g.device) (W.bytes first) c) (lane_of (unit_len g.device) (W.bytes second) c) }
-    ensures past { (c : ℕ) → g.lanes ≤ c → seen_at result.lanes c ≡ Seen.Ready }
-{
-    let mut lanes = [Seen::Ready; 4];
-    let bytes = lane_bytes(g.device);
-    for lane in 0..g.lanes {
-        let (one, two) = (lane_get(first, lane, bytes), lane_get(second, lane, bytes));
-        lanes[lane as usize] = data_of(lane_get(datum, lane, bytes), one, two);
-    }
-    Watch { lanes }
 }
 
 /// Polls the lanes of a bank of set 0002 that programs `datum` at `at`, by one or two bus reads, and
@@ -102,5 +86,5 @@ pub fn data_poll<W: BusWord, B: Bus<W>>(
         });
     }
     let second = look::<W, B>(bus, at)?;
-    Ok(data_watch(datum, first, second, g))
+    Ok(watch_of(Readings::Datum(datum, first, second), g))
 }

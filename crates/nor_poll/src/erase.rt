@@ -2,8 +2,8 @@
 ghost use Rattle.std.specs.Prelude.{◌≡◌, ◌<◌, ◌+◌, ℕ, IsTrue, IfOk, OnOk, OnErr};
 ghost use Rattle.nor_cell.specs.Wiring.{is_wiring};
 ghost use Rattle.nor_bus.specs.Driven.{Lost, EachLane, Reaches, Asks};
-ghost use Rattle.nor_poll.specs.Codes.{cycle_count};
-ghost use Rattle.nor_poll.specs.Losing.{LosesNone};
+ghost use Rattle.nor_poll.specs.Codes.{cycle_count, cycles_of as cycles_for, DarkensIn};
+ghost use Rattle.nor_poll.specs.Losing.{BeginsNone, DarkensLooking};
 ghost use Rattle.nor_poll.specs.Told.{seen_at};
 ghost use Rattle.nor_poll.specs.UnderErase.{EachUnder, state_at};
 ghost use Rattle.nor_poll.specs.Erase.{TakesErase, TakesEraseAll, TakesLook, BeginsErase, BeginsEraseAll, ChangesWithinErase, LooksAll, next_state as state_after, erase_polling as polling_in, look_reads};
@@ -21,7 +21,7 @@ use nor_word::BusWord;
 ///
 /// What it does to a lane holds where `g` is the bus's own wiring, the bus has the address, and the lane's
 /// chip would erase there: `TakesErase` in `specs/Erase.antt`. Such a chip erases the block, with no error
-/// set. `Off` comes only where a cycle failed. The last cycle begins the erase, so then nothing is lost.
+/// set. `Off` comes only where a cycle failed. The last cycle begins the erase, so then none has begun.
 pub fn erase_start<W: BusWord, B: Bus<W>>(
     set: Set,
     bus: &mut B,
@@ -31,7 +31,9 @@ pub fn erase_start<W: BusWord, B: Bus<W>>(
     ensures begins { OnOk result (Reaches W.WIDTH g at (B.state bus.old)
         → EachLane (BeginsErase set at) (B.state bus.old) (B.state bus.new)) }
     ensures loses { OnErr result (Reaches W.WIDTH g at (B.state bus.old)
-        → EachLane (LosesNone (TakesErase set at)) (B.state bus.old) (B.state bus.new)) }
+        → EachLane (BeginsNone (TakesErase set at)) (B.state bus.old) (B.state bus.new)) }
+    ensures dark { OnErr result (Reaches W.WIDTH g at (B.state bus.old)
+        → EachLane (DarkensIn at (cycles_for set EraseBlock)) (B.state bus.old) (B.state bus.new)) }
     ensures cycles { Asks (cycle_count set EraseBlock) result (B.state bus.old) (B.state bus.new) }
 {
     write_cycles::<W, B>(bus, g, at, cycles_of(set, Command::EraseBlock))?;
@@ -42,12 +44,14 @@ pub fn erase_start<W: BusWord, B: Bus<W>>(
 ///
 /// What it does to a lane holds where `g` is the bus's own wiring, the bus has address 0, and the lane's
 /// chip would erase all: `TakesEraseAll` in `specs/Erase.antt`. Such a chip erases them, with no error set.
-/// `Off` comes only where a cycle failed. The last cycle begins the erase, so then nothing is lost.
+/// `Off` comes only where a cycle failed. The last cycle begins the erase, so then none has begun.
 pub fn erase_all_start<W: BusWord, B: Bus<W>>(bus: &mut B, g: Geometry) -> Result<(), Off>
     ensures begins { OnOk result (Reaches W.WIDTH g 0 (B.state bus.old)
         → EachLane BeginsEraseAll (B.state bus.old) (B.state bus.new)) }
     ensures loses { OnErr result (Reaches W.WIDTH g 0 (B.state bus.old)
-        → EachLane (LosesNone TakesEraseAll) (B.state bus.old) (B.state bus.new)) }
+        → EachLane (BeginsNone TakesEraseAll) (B.state bus.old) (B.state bus.new)) }
+    ensures dark { OnErr result (Reaches W.WIDTH g 0 (B.state bus.old)
+        → EachLane (DarkensIn 0 (cycles_for Amd EraseAll)) (B.state bus.old) (B.state bus.new)) }
     ensures cycles { Asks (cycle_count Amd EraseAll) result (B.state bus.old) (B.state bus.new) }
 {
     write_cycles::<W, B>(bus, g, 0, cycles_of(Set::Amd, Command::EraseAll))?;
@@ -58,7 +62,7 @@ pub fn erase_polling<W: BusWord>(set: Set) -> Polling<W>
     ensures { result ≡ polling_in set }
 {
     match set {
-        Set::Intel => Polling::Status,
+        Set::Intel => Polling::EraseStatus,
         Set::Amd => Polling::Toggle,
     }
 }
@@ -105,8 +109,9 @@ pub fn next_lanes(lanes: Lanes, watch: &Watch) -> Lanes
 ///
 /// What it tells of a lane, and does to it, holds where `g` is the bus's own wiring, the bus has the
 /// address, and `lanes` says where the lane's chip is: `TakesLook` in `specs/Erase.antt`. A running lane
-/// stays so only where its job had reads left, or the chip is stuck; else it is finished, its part of what
-/// is erased 0xFF and without a weak place, or broken, with a weak place there. No other lane changes.
+/// stays so only where its job had reads left before, or the chip is stuck; else it is finished, its part of
+/// what is erased 0xFF and without a weak place, or broken, with a weak place there. Every other lane keeps
+/// its state and its bytes; of set 0001 each shows its status. `Off` comes only where a cycle failed.
 pub fn erase_look<W: BusWord, B: Bus<W>>(
     set: Set,
     bus: &mut B,
@@ -119,6 +124,8 @@ pub fn erase_look<W: BusWord, B: Bus<W>>(
         (B.state bus.old) (B.state bus.new)) }
     ensures loses { OnErr result (EachUnder (TakesLook set) ChangesWithinErase W.WIDTH g at lanes
         (B.state bus.old) (B.state bus.new)) }
+    ensures dark { OnErr result (Reaches W.WIDTH g at (B.state bus.old)
+        → EachLane (DarkensLooking at (cycles_for set ShowStatus)) (B.state bus.old) (B.state bus.new)) }
     ensures lost { OnErr result (Lost (cycle_count set ShowStatus + look_reads set)
         (B.state bus.old) (B.state bus.new)) }
 {

@@ -7,43 +7,48 @@
 //!
 //! `status_poll` is the poll of set 0001, whose chips show their status register. `toggle_poll` and
 //! `data_poll` are those of set 0002, whose chips show bits that toggle, and the complement of a bit of
-//! the datum: `specs/Toggles.antt` says what they ask of a chip. `poll` makes any of them, and
-//! `wait_ready` polls until no lane works.
+//! the datum: `specs/Toggles.antt` says what they ask of a chip. `poll` makes any of them, or one of an
+//! erase of set 0001, which looks past the error of a program. `wait_ready` polls until no lane works.
 //!
-//! The calls of both command sets stand here once, with the set as a parameter: `program_word`, `settle`,
-//! `erase_start`, `erase_look`, `suspend` and `resume`. `cycles_of` is the table of the cycles in which
-//! the sets differ, and `write_cycles` the one loop that writes them. What a call makes of a lane is one
-//! record in `specs/Word.antt`, `Rest.antt`, `Erase.antt`, `Suspend.antt` or `Resume.antt`; what the state
-//! of a lane under erase says of its chip is `LaneIs` in `specs/UnderErase.antt`; `specs/Reads.antt` says
-//! what any number of reads make of a chip, `specs/Losing.antt` what a call that is given up leaves.
+//! The calls of both command sets stand here once, with the set as a parameter: `program_word`,
+//! `program_buffer`, `settle`, `erase_start`, `erase_look`, `suspend`, `resume`, `lock`, `unlock` and
+//! `is_locked`; set 0002 alone has `erase_all_start`. `cycles_of` is the table of their command cycles, but
+//! for those that resume an erase, and `write_cycles` the one loop that writes them. What a call makes of a
+//! lane is one record in `specs/Word.antt`, `Buffer.antt`, `Rest.antt`, `Erase.antt`, `Suspend.antt`,
+//! `Resume.antt` or `Lock.antt`; what the state of a lane under erase says of its chip is `LaneIs` in
+//! `specs/UnderErase.antt`; `specs/Reads.antt` says what any number of reads make of a chip,
+//! `specs/Losing.antt` what a call that is given up leaves.
 //!
 //! It works over any bus, and stands on nor_bus for the cycles and on nor_word for the lanes of a
 //! word.
 #![tactic(auto)]
 
 mod broken;
+mod buffer;
 mod codes;
 mod data;
 mod erase;
 mod lanes;
+mod locks;
 mod look;
 mod polling;
+mod readings;
 mod rest;
 mod resuming;
 mod status;
 mod suspending;
-#[cfg(test)]
-mod tests;
 mod toggle;
 mod wait;
 mod watch;
 mod word;
 
 pub use broken::broken_lanes;
+pub use buffer::program_buffer;
 pub use codes::{Command, Cycle, To, cycles_of, write_cycles};
 pub use data::data_poll;
 pub use erase::{erase_all_start, erase_look, erase_start};
 pub use lanes::{Halt, LaneSet, LaneState, Lanes};
+pub use locks::{is_locked, lock, unlock};
 pub use polling::{Polling, poll};
 pub use rest::settle;
 pub use resuming::resume;

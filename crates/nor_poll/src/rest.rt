@@ -2,7 +2,7 @@
 ghost use Rattle.std.specs.Prelude.{◌≡◌, ◌+◌, ℕ, min, OnOk, OnErr};
 ghost use Rattle.nor_cell.specs.Between.{AtRest};
 ghost use Rattle.nor_bus.specs.Driven.{Went, Lost, EachLane, Reaches, Asks};
-ghost use Rattle.nor_poll.specs.Codes.{cycle_count};
+ghost use Rattle.nor_poll.specs.Codes.{cycle_count, cycles_of as cycles_for, DarkensIn};
 ghost use Rattle.nor_poll.specs.declared.codes.Command.TheVariants.{ClearErrors, ShowArray, Reset};
 ghost use Rattle.nor_poll.specs.Rest.{Resets, Settles, SettlesUnbroken};
 ghost use Rattle.nor_poll.specs.Losing.{LosesNone};
@@ -36,8 +36,8 @@ pub fn end_program<W: BusWord, B: Bus<W>>(
     settle_at::<W, B>(set, bus, g, at)
 }
 
-// Lets every lane show its array, but for a held block. The errors of set 0001 stay: each command of the
-// set clears them first.
+// Lets every lane show its array, but for a held block. The errors of set 0001 stay: the begin of a program
+// and of an erase clears them.
 pub fn reset_at<W: BusWord, B: Bus<W>>(
     set: Set,
     bus: &mut B,
@@ -46,8 +46,8 @@ pub fn reset_at<W: BusWord, B: Bus<W>>(
 ) -> Result<(), Off>
     ensures lanes { OnOk result (Reaches W.WIDTH g at (B.state bus.old)
         → EachLane (Resets set) (B.state bus.old) (B.state bus.new)) }
-    ensures loses { OnErr result (Reaches W.WIDTH g at (B.state bus.old)
-        → EachLane (LosesNone (AtRest set)) (B.state bus.old) (B.state bus.new)) }
+    ensures dark { OnErr result (Reaches W.WIDTH g at (B.state bus.old)
+        → EachLane (DarkensIn at (cycles_for set Reset)) (B.state bus.old) (B.state bus.new)) }
     ensures cycles { Asks (cycle_count set Reset) result (B.state bus.old) (B.state bus.new) }
 {
     write_cycles::<W, B>(bus, g, at, cycles_of(set, Command::Reset))?;
@@ -63,6 +63,8 @@ pub fn settle_at<W: BusWord, B: Bus<W>>(
 ) -> Result<(), Off>
     ensures lanes { OnOk result (Reaches W.WIDTH g at (B.state bus.old)
         → EachLane (Settles set) (B.state bus.old) (B.state bus.new)) }
+    ensures dark { OnErr result (Reaches W.WIDTH g at (B.state bus.old)
+        → EachLane (DarkensIn at (cycles_for set ClearErrors)) (B.state bus.old) (B.state bus.new)) }
     ensures loses { OnErr result (Reaches W.WIDTH g at (B.state bus.old)
         → EachLane (LosesNone (AtRest set)) (B.state bus.old) (B.state bus.new)) }
     ensures cycles { Asks (cycle_count set ClearErrors) result (B.state bus.old) (B.state bus.new) }
@@ -85,6 +87,8 @@ pub fn settle<W: BusWord, B: Bus<W>>(
 ) -> Result<(), Off>
     ensures settles { OnOk result (Reaches W.WIDTH g 0 (B.state bus.old)
         → EachLane (Settles set) (B.state bus.old) (B.state bus.new)) }
+    ensures dark { OnErr result (Reaches W.WIDTH g 0 (B.state bus.old)
+        → EachLane (DarkensIn 0 (cycles_for set ClearErrors)) (B.state bus.old) (B.state bus.new)) }
     ensures loses { OnErr result (Reaches W.WIDTH g 0 (B.state bus.old)
         → EachLane (LosesNone (AtRest set)) (B.state bus.old) (B.state bus.new)) }
     ensures cycles { Asks (cycle_count set ClearErrors) result (B.state bus.old) (B.state bus.new) }

@@ -3,7 +3,7 @@ ghost use Rattle.std.specs.Prelude.{◌≡◌, ◌<◌, ◌≤◌, ◌%◌, ◌^
 ghost use Rattle.nor_cell.specs.Bits.{unit_len};
 ghost use Rattle.nor_cell.specs.Wiring.{is_wiring};
 ghost use Rattle.nor_word.specs.Word.{lane_of};
-ghost use Rattle.nor_bus.specs.Driven.{spread, Asks};
+ghost use Rattle.nor_bus.specs.Driven.{spread, Asks, EachLane, Darkens};
 ghost use Rattle.nor_poll.specs.Erase.{ChangesWithinErase};
 ghost use Rattle.nor_poll.specs.UnderErase.{EachUnder, state_at};
 ghost use Rattle.nor_poll.specs.Resume.{resume_code as code_for, resumed_state as state_after, TakesResume, ResumesAll};
@@ -63,7 +63,8 @@ fn resumed_lanes(lanes: Lanes) -> Lanes
 ///
 /// What it does to a lane holds where `g` is the bus's own wiring, the bus has the address, and `lanes`
 /// says where the lane's chip is: `TakesResume` in `specs/Resume.antt`. A suspended lane then runs; every
-/// other is where it was, and shows its array.
+/// other is where it was, and its chip shows its array, with no fault. `Off` comes only where the cycle
+/// failed: each chip is as before, or as a loss of power leaves it.
 pub fn resume<W: BusWord, B: Bus<W>>(
     set: Set,
     bus: &mut B,
@@ -76,6 +77,7 @@ pub fn resume<W: BusWord, B: Bus<W>>(
         (B.state bus.old) (B.state bus.new)) }
     ensures loses { OnErr result (EachUnder (TakesResume set) ChangesWithinErase W.WIDTH g at lanes
         (B.state bus.old) (B.state bus.new)) }
+    ensures dark { OnErr result (EachLane Darkens (B.state bus.old) (B.state bus.new)) }
     ensures cycles { Asks 1 result (B.state bus.old) (B.state bus.new) }
 {
     write_word::<W, B>(bus, at, resume_word::<W>(set, g, lanes))?;

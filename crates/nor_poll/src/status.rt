@@ -6,13 +6,14 @@ ghost use Rattle.nor_bus.specs.Bus.{units_of, lane, lanes_of, fails, IsWired};
 ghost use Rattle.nor_bus.specs.Cycles.{BusFails};
 ghost use Rattle.nor_bus.specs.Driven.{IsOwn, Went, Lost, EachLane};
 ghost use Rattle.nor_poll.specs.Reads.{ReadBy, DarkensReading};
-ghost use Rattle.nor_poll.specs.Told.{seen_at, TellsStatus};
-ghost use Rattle.nor_poll.specs.Register.{status_says};
+ghost use Rattle.nor_poll.specs.Told.{seen_at, TellsStatus, TellsErase};
+ghost use Rattle.nor_poll.specs.Register.{status_says, heeded};
 
+use crate::readings::{Readings, watch_of};
 use crate::{Broke, Seen, Watch};
-use nor_bus::{Bus, Off, lane_bytes, read_word};
+use nor_bus::{Bus, Off, read_word};
 use nor_cell::Geometry;
-use nor_word::{BusWord, lane_get};
+use nor_word::BusWord;
 
 // Bits of the status register.
 const READY: u16 = 0x80;
@@ -23,8 +24,10 @@ const ERASE_ERROR: u16 = 0x20;
 
 const PROGRAM_ERROR: u16 = 0x10;
 
+const ALL_BUT_PROGRAM_ERROR: u16 = 0xEF;
+
 // What a status register says.
-fn seen_of(status: u16) -> Seen
+pub fn seen_of(status: u16) -> Seen
     ensures { result ≡ status_says status }
 {
     if status & READY == 0 {
@@ -40,19 +43,11 @@ fn seen_of(status: u16) -> Seen
     }
 }
 
-/// What the status registers of all lanes say.
-pub fn watch_of<W: BusWord>(word: W, g: Geometry) -> Watch
-    requires wiring { IsTrue (is_wiring W.WIDTH g.lanes g.device) }
-    ensures told { (c : ℕ) → c < g.lanes
-        → seen_at result.lanes c ≡ status_says (lane_of (unit_len g.device) (W.bytes word) c) }
-    ensures past { (c : ℕ) → g.lanes ≤ c → seen_at result.lanes c ≡ Seen.Ready }
+// In an erase the error of a program says nothing: it may stand from before.
+pub fn erase_seen_of(status: u16) -> Seen
+    ensures { result ≡ status_says (heeded status) }
 {
-    let mut lanes = [Seen::Ready; 4];
-    let bytes = lane_bytes(g.device);
-    for lane in 0..g.lanes {
-        lanes[lane as usize] = seen_of(lane_get(word, lane, bytes));
-    }
-    Watch { lanes }
+    seen_of(status & ALL_BUT_PROGRAM_ERROR)
 }
 
 /// Reads the status of every lane of a bank of set 0001, by one bus read, and tells what each is at.
@@ -78,5 +73,23 @@ pub fn status_poll<W: BusWord, B: Bus<W>>(bus: &mut B, g: Geometry, at: u32) -> 
     ensures wired { IsWired W.WIDTH (B.state bus.old) }
 {
     let word = read_word::<W, B>(bus, at)?;
-    Ok(watch_of(word, g))
+    Ok(watch_of(Readings::Status(word), g))
+}
+
+/// The same poll of lanes whose block is under erase. It looks past the error of a program, which may
+/// stand from before, and would hide that the erase is held.
+pub fn erase_poll<W: BusWord, B: Bus<W>>(bus: &mut B, g: Geometry, at: u32) -> Result<Watch, Off>
+    requires wiring { IsTrue (is_wiring W.WIDTH g.lanes g.device) }
+    ensures told { IfOk result (λ watch. IsOwn W.WIDTH g (B.state bus.old) → (c : ℕ)
+        → c < lanes_of (B.state bus.old) → TellsErase at (lane (B.state bus.old) c)
+        (seen_at watch.lanes c) (lane (B.state bus.new) c)) }
+    ensures past { IfOk result (λ watch. (c : ℕ) → g.lanes ≤ c
+        → seen_at watch.lanes c ≡ Seen.Ready) }
+    ensures read { OnOk result (ReadBy 1 1 (B.state bus.old) (B.state bus.new)) }
+    ensures lost { OnErr result (Lost 1 (B.state bus.old) (B.state bus.new)) }
+    ensures dark { OnErr result (EachLane DarkensReading (B.state bus.old) (B.state bus.new)) }
+    ensures units { units_of (B.state bus.new) ≡ units_of (B.state bus.old) }
+{
+    let word = read_word::<W, B>(bus, at)?;
+    Ok(watch_of(Readings::EraseStatus(word), g))
 }

@@ -9,6 +9,7 @@ ghost use Rattle.nor_poll.specs.Told.{seen_at};
 ghost use Rattle.nor_poll.specs.Toggles.{toggles, fault_says, works_or_says, works_on, shows_held, pair_says, over_says, ShowsToggle, TellsToggle};
 
 use crate::look::look;
+use crate::readings::{Readings, watch_of};
 use crate::{Broke, Seen, Watch};
 use nor_bus::{Bus, Off, lane_bytes};
 use nor_cell::Geometry;
@@ -72,7 +73,7 @@ pub fn pair_of(first: u16, second: u16) -> Seen
 }
 
 // The same of a lane that no longer works.
-fn over_of(second: u16, third: u16) -> Seen
+pub fn over_of(second: u16, third: u16) -> Seen
     ensures { result ≡ over_says second third }
 {
     if second == third {
@@ -107,40 +108,6 @@ fn just_ended<W: BusWord>(first: W, second: W, g: Geometry) -> bool
     ended
 }
 
-// What two words tell of all lanes.
-fn pair_watch<W: BusWord>(first: W, second: W, g: Geometry) -> Watch
-    requires wiring { IsTrue (is_wiring W.WIDTH g.lanes g.device) }
-    ensures told { (c : ℕ) → c < g.lanes
-        → seen_at result.lanes c ≡ pair_says
-        (lane_of (unit_len g.device) (W.bytes first) c) (lane_of (unit_len g.device) (W.bytes second) c) }
-    ensures past { (c : ℕ) → g.lanes ≤ c → seen_at result.lanes c ≡ Seen.Ready }
-{
-    let mut lanes = [Seen::Ready; 4];
-    let bytes = lane_bytes(g.device);
-    for lane in 0..g.lanes {
-        let (one, two) = (lane_get(first, lane, bytes), lane_get(second, lane, bytes));
-        lanes[lane as usize] = pair_of(one, two);
-    }
-    Watch { lanes }
-}
-
-// The same where no lane works any more.
-fn over_watch<W: BusWord>(first: W, second: W, g: Geometry) -> Watch
-    requires wiring { IsTrue (is_wiring W.WIDTH g.lanes g.device) }
-    ensures told { (c : ℕ) → c < g.lanes
-        → seen_at result.lanes c ≡ over_says
-        (lane_of (unit_len g.device) (W.bytes first) c) (lane_of (unit_len g.device) (W.bytes second) c) }
-    ensures past { (c : ℕ) → g.lanes ≤ c → seen_at result.lanes c ≡ Seen.Ready }
-{
-    let mut lanes = [Seen::Ready; 4];
-    let bytes = lane_bytes(g.device);
-    for lane in 0..g.lanes {
-        let (one, two) = (lane_get(first, lane, bytes), lane_get(second, lane, bytes));
-        lanes[lane as usize] = over_of(one, two);
-    }
-    Watch { lanes }
-}
-
 /// Polls the lanes of a bank of set 0002 by what toggles in them, by two or three bus reads, and
 /// tells what each is at.
 ///
@@ -173,8 +140,8 @@ pub fn toggle_poll<W: BusWord, B: Bus<W>>(bus: &mut B, g: Geometry, at: u32) -> 
     let first = look::<W, B>(bus, at)?;
     let second = look::<W, B>(bus, at)?;
     if !just_ended(first, second, g) {
-        return Ok(pair_watch(first, second, g));
+        return Ok(watch_of(Readings::Pair(first, second), g));
     }
     let third = look::<W, B>(bus, at)?;
-    Ok(over_watch(second, third, g))
+    Ok(watch_of(Readings::Over(second, third), g))
 }

@@ -43,7 +43,7 @@ pub fn wait_ready<W: BusWord, B: Bus<W>>(
     ensures ready { IfOk result (λ watch. IsOwn W.WIDTH g (B.state bus.old)
         → at < units_of (B.state bus.old) → (c : ℕ) → c < lanes_of (B.state bus.old)
         → Answers W.bytes how at c (lane (B.state bus.old) c)
-        → IsReady at (lane (B.state bus.old) c) (seen_at watch.lanes c) (lane (B.state bus.new) c)) }
+        → IsReady how at (lane (B.state bus.old) c) (seen_at watch.lanes c) (lane (B.state bus.new) c)) }
     ensures past { IfOk result (λ watch. (c : ℕ) → g.lanes ≤ c → seen_at watch.lanes c ≡ Ready) }
     ensures went { OnOk result (ReadBy 1 (wait_most how limit) (B.state bus.old) (B.state bus.new)) }
     ensures prompt { OnOk result (IsOwn W.WIDTH g (B.state bus.old)

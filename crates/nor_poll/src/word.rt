@@ -7,6 +7,7 @@ ghost use Rattle.nor_poll.specs.declared.codes.Command.TheVariants.{ProgramWord}
 ghost use Rattle.nor_poll.specs.Polled.{polling_for};
 ghost use Rattle.nor_poll.specs.Word.{BeginsWord, ProgramsWord, LosesWord, AreBroken, IsPrompt, WordHalts, word_most};
 
+use crate::polling::set_polling;
 use crate::rest::end_program;
 use crate::{Command, Halt, LaneSet, Polling, broken_lanes, cycles_of, wait_ready, write_cycles};
 use nor_bus::{Bus, Off, write_word};
@@ -35,14 +36,13 @@ fn begin_word<W: BusWord, B: Bus<W>>(
     Ok(())
 }
 
-// How a program of the word is polled.
-fn polling_of<W: BusWord>(set: Set, g: Geometry, new: W) -> Polling<W>
+// How a program is polled that ends with this word.
+pub fn polling_of<W: BusWord>(set: Set, g: Geometry, new: W) -> Polling<W>
     ensures { result ≡ polling_for set g new }
 {
     match set {
-        Set::Intel => Polling::Status,
         Set::Amd if g.lanes == 1 => Polling::Data(new),
-        Set::Amd => Polling::Toggle,
+        _ => set_polling(set),
     }
 }
 

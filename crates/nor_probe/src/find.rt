@@ -33,8 +33,10 @@ fn try_wiring<W: BusWord, B: Bus<W>>(bus: &mut B, g: Geometry) -> Result<bool, O
 pub fn answering<W: BusWord, B: Bus<W>>(bus: &mut B) -> Result<Option<Geometry>, Off>
     ensures counted { OnOk result (Counted 0 21 (B.state bus.old) (B.state bus.new)) }
     ensures lanes { OnOk result (EachLane Rests (B.state bus.old) (B.state bus.new)) }
-    ensures asked { IfOk result (λ found. OnSome found (EachLane Asks (B.state bus.old) (B.state bus.new))) }
-    ensures wiring { IfOk result (λ found. IfSome found (λ g. IsTrue (is_wiring W.WIDTH g.lanes g.device))) }
+    ensures asked { IfOk result (λ found.
+        OnSome found (EachLane Asks (B.state bus.old) (B.state bus.new))) }
+    ensures wiring { IfOk result (λ found.
+        IfSome found (λ g. IsTrue (is_wiring W.WIDTH g.lanes g.device))) }
     ensures found { IfOk result (λ found. AllLanes IsIdle (B.state bus.old)
         → found ≡ found_geometry W.WIDTH (B.state bus.old).lanes) }
     ensures lost { OnErr result (Lost 21 (B.state bus.old) (B.state bus.new)) }

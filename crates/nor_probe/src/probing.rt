@@ -93,7 +93,8 @@ pub fn probe<W: BusWord, B: Bus<W>>(bus: &mut B) -> Result<Found, ProbeError>
         → result_err result ≡ refusal W.WIDTH (B.state bus.old).lanes }
     ensures found { IfOk result (λ found. AllLanes IsIdle (B.state bus.old)
         → IsFoundOn W.WIDTH (B.state bus.old).lanes found) }
-    ensures wiring { IfOk result (λ found. IsTrue (is_wiring W.WIDTH found.geometry.lanes found.geometry.device)) }
+    ensures wiring { IfOk result (λ found.
+        IsTrue (is_wiring W.WIDTH found.geometry.lanes found.geometry.device)) }
 
     // On a well wired bus.
     ensures shown { (g : Geometry) → IsWellWired W.WIDTH g (B.state bus.old)

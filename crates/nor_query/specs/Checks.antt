@@ -43,7 +43,8 @@ head_checks table =
 
 -- the extended table lies behind the regions and in the table
 abbrev pub has_place : List ℕ → Bool
-has_place table = nat_le (0x2D + 4 * region_count table) (extended_at table) && nat_le (extended_at table + named_len (set_of table)) 0x200
+has_place table = nat_le (0x2D + 4 * region_count table) (extended_at table)
+    && nat_le (extended_at table + named_len (set_of table)) 0x200
 
 -- the place of the extended table, the words P, R, I, and the version from 1.0 to 1.5
 abbrev pub extended_checks : List ℕ → List Check
@@ -59,7 +60,8 @@ extended_checks table =
 -- the regions have as many bytes as the chip
 abbrev pub sum_check : List ℕ → Check
 sum_check table =
-    check (total_len (regions_of table) == 2 ^ field_8 table 0x27) 0x2D (SizeMismatch (total_len (regions_of table)) (2 ^ field_8 table 0x27))
+    check (total_len (regions_of table) == 2 ^ field_8 table 0x27) 0x2D
+    (SizeMismatch (total_len (regions_of table)) (2 ^ field_8 table 0x27))
 
 -- what is wrong with a table, by the first check that doesn't hold
 abbrev pub first_error : List ℕ → Option QueryError

@@ -53,4 +53,7 @@ limit_of times work = most_reads (slice_index times (time_of work)) (slice_index
 
 -- the blocks of a chip with this table: none where the table is refused
 abbrev pub table_blocks : List ℕ → List Span
-table_blocks table = if is_none (first_error table) then spans_of (in_order (is_reversed_in (set_of table) table) (regions_of table)) else []
+table_blocks table =
+    if is_none (first_error table) then
+    spans_of (in_order (is_reversed_in (set_of table) table) (regions_of table))
+    else []

@@ -35,8 +35,10 @@ pub record HeadReads (table : List ℕ) (at : ℕ) (query : Query) : Type 0 wher
 
 -- what a set's extended table says, from a place on
 abbrev pub Says : List ℕ → ℕ → Extended → Type 0
-Says table ext (Intel features in_suspend) = (field_32 table (ext + 5) ≡ features) × (field_8 table (ext + 9) ≡ in_suspend)
-Says table ext (Amd suspend protect boot) = (field_8 table (ext + 6) ≡ suspend) × (field_8 table (ext + 9) ≡ protect) × (field_8 table (ext + 15) ≡ boot)
+Says table ext (Intel features in_suspend) = (field_32 table (ext + 5) ≡ features)
+    × (field_8 table (ext + 9) ≡ in_suspend)
+Says table ext (Amd suspend protect boot) = (field_8 table (ext + 6) ≡ suspend)
+    × (field_8 table (ext + 9) ≡ protect) × (field_8 table (ext + 15) ≡ boot)
 
 -- the words P, R, I, the version, and what the set's table says
 pub record ExtendedReads (table : List ℕ) (ext minor : ℕ) (extended : Extended) : Type 0 where

@@ -21,8 +21,6 @@ mod error;
 mod field;
 mod place;
 mod query;
-#[cfg(test)]
-mod tests;
 mod valid;
 
 pub use decoding::decode;

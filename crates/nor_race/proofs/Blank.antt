@@ -1,5 +1,5 @@
 -- Notes and racers, before the race.
-use Rattle.std.proofs.Common.{◌≡◌, ◌<◌, ◌≤◌, ◌+◌, ◌^◌, ◌∙◌, ◌⊎◌, ◌==◌, inl, inr, ⊎_elim, ◌++◌, ◌∷◌, ℕ, zero, suc, List, [], length, take, cond, Bool, true, false, Option, Some, None, refl, sym, ap, subst, arith, get_or, slice_index_or}
+use Rattle.std.proofs.Common.{◌≡◌, ◌<◌, ◌≤◌, ◌+◌, ◌^◌, ◌∙◌, ◌⊎◌, ◌==◌, inl, inr, ⊎_elim, ◌++◌, ◌∷◌, ℕ, zero, suc, List, [], length, take, cond, Bool, true, false, Option, Some, None, refl, sym, ap, subst, arith, get_or, slice_index_or, append-nil}
 use Rattle.std.specs.Prelude.{slice_get, All}
 use Rattle.std.proofs.lemmas.Bool.{cases_lt}
 use Rattle.std.proofs.lemmas.List.{length-append, take_all}
@@ -48,15 +48,11 @@ by_more lines caller i line b below is test =
     ap (lines_by caller) (one_more lines i line below is)
     ∙ (filter-append (λ (l : Line). l.caller == caller) (take i lines) (line ∷ []) ∙ ap (λ (l : List Line). lines_by caller (take i lines) ++ l) (of_last caller line b test))
 
-append_none : {A : Type 0} (xs : List A) → xs ++ [] ≡ xs
-append_none [] = refl
-append_none (x ∷ xs) = ap (◌∷◌ x) (append_none xs)
-
 pub made_skip : (lines : List Line) (caller i : ℕ) (line : Line) (notes : List Note) → MadeTo lines caller notes i → i < length lines → line ≡ get_or lines i line → (line.caller == caller) ≡ false
     → MadeTo lines caller notes (i + 1)
 made_skip lines caller i line notes so below is test = record {
   fit = so.fit;
-  are = subst (AreForLines lines caller notes) (sym (by_more lines caller i line false below is test ∙ append_none (lines_by caller (take i lines)))) so.are;
+  are = subst (AreForLines lines caller notes) (sym (by_more lines caller i line false below is test ∙ append-nil (lines_by caller (take i lines)))) so.are;
   few = let h = so.few in omega (arith, h);
   below = λ j note at. let h = so.below j note at in omega (arith, h);
 }

@@ -7,14 +7,13 @@ use Rattle.nor_io.specs.Files.{SinkState, Appends, AppendsPart}
 use Rattle.nor_io.specs.declared.sink.SinkError.{SinkError}
 use Rattle.nor_io.proofs.Pieces.{Appends-append, AppendsPart-append, AppendsPart-more}
 use Rattle.nor_io.proofs.Putting.{nothing_put}
-use Rattle.nor_array.specs.Array.{ArrayState}
+use Rattle.nor_array.specs.Entries.{is_halt}
 use Rattle.nor_array.specs.declared.entry.Entry.{Entry}
 use Rattle.nor_array.specs.declared.entry.Op.{Op}
 use Rattle.nor_array.specs.declared.entry.Op.TheVariants.{Read, Program, EraseOpen, EraseAll, Poll, Lock, Unlock, IsLocked, Arm, PowerOn}
 use Rattle.nor_array.specs.declared.entry.Reply.{Reply}
 use Rattle.nor_array.specs.declared.entry.Reply.TheVariants.{Done}
 use Rattle.nor_bank.specs.State.{BankState}
-use Rattle.nor_bank.specs.Work.{CanCall}
 use Rattle.nor_script.specs.Report.{entry_line, entry_lines}
 use Rattle.nor_script.specs.Script.{IsScript, HasCaller}
 use Rattle.nor_script.specs.declared.line.Line.{Line}
@@ -23,7 +22,7 @@ use Rattle.nor_script.specs.declared.line.Word.TheVariants.{Call, Erase, EraseAl
 use Rattle.nor_driver.specs.Callers.{Gives}
 use Rattle.nor_driver.specs.Fronts.{entries_of}
 use Rattle.nor_run.specs.Built.{is_built_word, are_built}
-use Rattle.nor_run.specs.Running.{PutsReply, IsHistoryOf, RunsLines, line_of_entry, is_halt}
+use Rattle.nor_run.specs.Running.{PutsReply, IsHistoryOf, RunsLines, line_of_entry}
 use Rattle.nor_run.specs.Started.{of_put}
 use Rattle.nor_run.specs.declared.error.RunError.{RunError}
 use Rattle.nor_run.specs.declared.lines.Ran.{Ran}
@@ -216,39 +215,42 @@ script_races lines script built = record { few = let few = script.few in omega a
 pub told_of_race : (lines : List Line) (old new : BankState) (notes : List Note) (races : Races lines old new notes) → AreTold lines notes (entries_of races.front)
 told_of_race lines old new notes races = record { count = races.count; told = races.told }
 
-history_of : (lines : List Line) (old new : BankState) (notes : List Note) (a : ArrayState) (races : Races lines old new notes) → CanCall old a → IsHistoryOf true lines old new a (entries_of races.front)
-history_of lines old new notes a races can =
-    let so = races.stands.each a can in
-    record { legal = so.legal; answers = races.answers; stands = so.can.stands; lasts = so.lasts }
+history_of : (lines : List Line) (old new : BankState) (notes : List Note) (races : Races lines old new notes) → IsHistoryOf true lines old new (entries_of races.front)
+history_of lines old new notes races = record {
+  answers = races.answers;
+  leads = λ a can.
+      let so = races.stands.each a can in
+      record { legal = so.legal; stands = so.can.stands; lasts = so.lasts };
+}
 
-raced_so : (lines : List Line) (old new : BankState) (notes : List Note) (a : ArrayState) (before after : SinkState) (ran : Result Ran SinkError) → Races lines old new notes → CanCall old a
+raced_so : (lines : List Line) (old new : BankState) (notes : List Note) (before after : SinkState) (ran : Result Ran SinkError) → Races lines old new notes
     → IfOk ran (λ r. (es : List Entry) → AreTold lines notes es → PutsAll es before after r)
     → IfErr ran (λ e. (es : List Entry) → AreTold lines notes es → PutsSome es before after)
-    → RunsLines true lines old new a before after (of_put ran)
-raced_so lines old new notes a before after (Ok r) races can whole part =
+    → RunsLines true lines old new before after (of_put ran)
+raced_so lines old new notes before after (Ok r) races whole part =
     let put = whole (entries_of races.front) (told_of_race lines old new notes races) in
     record {
       history = entries_of races.front;
-      is = history_of lines old new notes a races can;
+      is = history_of lines old new notes races;
       text = put.text;
       entries = put.entries;
       halted = put.halted;
     }
-raced_so lines old new notes a before after (Err e) races can whole part = record {
+raced_so lines old new notes before after (Err e) races whole part = record {
   history = entries_of races.front;
   count = length lines;
   all = refl;
-  is = subst (λ (ls : List Line). IsHistoryOf true ls old new a (entries_of races.front)) (sym (take_all (length lines) lines (omega arith))) (history_of lines old new notes a races can);
+  is = subst (λ (ls : List Line). IsHistoryOf true ls old new (entries_of races.front)) (sym (take_all (length lines) lines (omega arith))) (history_of lines old new notes races);
   text = part (entries_of races.front) (told_of_race lines old new notes races);
 }
 
-pub raced_runs : (lines ls : List Line) (old new : BankState) (notes : List Note) (a : ArrayState) (before after : SinkState) (ran : Result Ran SinkError) (result : Result Ran RunError)
-    → ls ≡ lines → Races lines old new notes → CanCall old a → result ≡ of_put ran
+pub raced_runs : (lines ls : List Line) (old new : BankState) (notes : List Note) (before after : SinkState) (ran : Result Ran SinkError) (result : Result Ran RunError)
+    → ls ≡ lines → Races lines old new notes → result ≡ of_put ran
     → IfOk ran (λ r. (es : List Entry) → AreTold ls notes es → PutsAll es before after r)
     → IfErr ran (λ e. (es : List Entry) → AreTold ls notes es → PutsSome es before after)
-    → RunsLines true lines old new a before after result
-raced_runs lines ls old new notes a before after ran result same races can put whole part =
-    subst (λ (r : Result Ran RunError). RunsLines true lines old new a before after r) (sym put)
-    (raced_so lines old new notes a before after ran races can
+    → RunsLines true lines old new before after result
+raced_runs lines ls old new notes before after ran result same races put whole part =
+    subst (λ (r : Result Ran RunError). RunsLines true lines old new before after r) (sym put)
+    (raced_so lines old new notes before after ran races
     (subst (λ (xs : List Line). IfOk ran (λ r. (es : List Entry) → AreTold xs notes es → PutsAll es before after r)) same whole)
     (subst (λ (xs : List Line). IfErr ran (λ e. (es : List Entry) → AreTold xs notes es → PutsSome es before after)) same part))

@@ -1,5 +1,5 @@
 -- Notes put at their places.
-use Rattle.std.proofs.Common.{◌≡◌, ◌<◌, ◌≤◌, ◌+◌, ◌-◌, ◌∙◌, ◌⊎◌, inl, inr, ⊎_elim, ◌++◌, ◌∷◌, ℕ, zero, suc, List, [], length, min, Some, refl, sym, ap, subst, arith, append_assoc, slice_set, slice_index_or}
+use Rattle.std.proofs.Common.{◌≡◌, ◌<◌, ◌≤◌, ◌+◌, ◌-◌, ◌∙◌, ◌⊎◌, inl, inr, ⊎_elim, ◌++◌, ◌∷◌, ℕ, zero, suc, List, [], length, min, Some, refl, sym, ap, subst, arith, append_assoc, append-nil, slice_set, slice_index_or}
 use Rattle.std.specs.Prelude.{slice_get, All}
 use Rattle.std.proofs.lemmas.Bool.{cases_lt}
 use Rattle.std.proofs.lemmas.Option.{slice_get_within, slice_get-get_or}
@@ -121,12 +121,8 @@ pub record PutTo (start left old now : List Note) : Type 0 where
   pub parts : start ≡ left ++ done
   pub placed : Placed done old now
 
-append_none : {A : Type 0} (xs : List A) → xs ++ [] ≡ xs
-append_none [] = refl
-append_none (x ∷ xs) = ap (◌∷◌ x) (append_none xs)
-
 pub put_none : (start table : List Note) → PutTo start start table table
-put_none start table = record { done = []; parts = sym (append_none start); placed = placed_none table }
+put_none start table = record { done = []; parts = sym (append-nil start); placed = placed_none table }
 
 last_at : {A : Type 0} (rest : List A) (x : A) → slice_get (rest ++ x ∷ []) (length rest) ≡ Some x
 last_at [] x = refl
@@ -159,7 +155,7 @@ module _ {W B : Type 0} where
     pub placed : Placed (all_of (notes_of done)) old now
 
   pub put_no_racer : (start : List (Racer W B)) (table : List Note) → PutAllTo start start table table
-  put_no_racer start table = record { done = []; parts = sym (append_none start); placed = placed_none table }
+  put_no_racer start table = record { done = []; parts = sym (append-nil start); placed = placed_none table }
 
   notes_at : (racers : List (Racer W B)) (w : ℕ) (r : Racer W B) → slice_get racers w ≡ Some r → slice_get (notes_of racers) w ≡ Some r.notes.items
   notes_at [] w r at = none_some r at

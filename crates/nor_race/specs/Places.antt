@@ -15,6 +15,7 @@ IsOneOf notes note = (j : ℕ) × (slice_get notes j ≡ Some note)
 pub record Placed (notes old new : List Note) : Type 0 where
   pub size : length new ≡ length old
   pub put : (note : Note) → IsOneOf notes note
-      → (there : Note) × (slice_get new note.position ≡ Some there) × IsOneOf notes there × (there.position ≡ note.position)
+      → (there : Note) × (slice_get new note.position ≡ Some there)
+      × IsOneOf notes there × (there.position ≡ note.position)
   pub each : (place : ℕ) (note : Note) → slice_get new place ≡ Some note
       → (slice_get old place ≡ Some note) ⊎ (IsOneOf notes note × (note.position ≡ place))

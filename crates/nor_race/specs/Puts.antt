@@ -4,7 +4,7 @@ use Rattle.nor_array.specs.declared.entry.Entry.{Entry}
 use Rattle.nor_io.specs.Files.{SinkState, Appends, AppendsPart}
 use Rattle.nor_script.specs.Report.{entry_lines}
 use Rattle.nor_script.specs.declared.line.Line.{Line}
-use Rattle.nor_run.specs.Running.{has_halt}
+use Rattle.nor_array.specs.Entries.{has_halt}
 use Rattle.nor_run.specs.declared.lines.Ran.{Ran}
 use Rattle.nor_race.specs.Ran.{Tells}
 use Rattle.nor_race.specs.declared.note.Note.{Note}
@@ -12,7 +12,8 @@ use Rattle.nor_race.specs.declared.note.Note.{Note}
 -- The notes tell these entries, in their order and each once.
 pub record AreTold (lines : List Line) (notes : List Note) (es : List Entry) : Type 0 where
   pub count : length notes ≡ length es
-  pub told : (k : ℕ) (note : Note) (e : Entry) → slice_get notes k ≡ Some note → slice_get es k ≡ Some e → Tells lines note e
+  pub told : (k : ℕ) (note : Note) (e : Entry)
+      → slice_get notes k ≡ Some note → slice_get es k ≡ Some e → Tells lines note e
 
 -- they tell some history
 pub record HasHistory (lines : List Line) (notes : List Note) : Type 0 where

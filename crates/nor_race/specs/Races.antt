@@ -11,11 +11,12 @@ use Rattle.nor_race.specs.declared.note.Note.{Note}
 
 -- Of two notes for lines of one caller, the later is for the later line.
 abbrev pub KeepOrder : List Line → List Note → Type 0
-KeepOrder lines notes = (i j : ℕ) (x y : Note) (a b : Line) → i < j → slice_get notes i ≡ Some x → slice_get notes j ≡ Some y
+KeepOrder lines notes =
+    (i j : ℕ) (x y : Note) (a b : Line) → i < j → slice_get notes i ≡ Some x → slice_get notes j ≡ Some y
     → slice_get lines x.line ≡ Some a → slice_get lines y.line ≡ Some b → a.caller ≡ b.caller → x.line < y.line
 
--- There is a history that answers the script, for which the bank stands that is given back. The notes tell its entries, each
--- once, at the place that is its position, and keep the order of each caller's lines.
+-- There is a history that answers the script, for which the bank stands that is given back. The notes tell its
+-- entries, each once, at the place that is its position, and keep the order of each caller's lines.
 pub record Races (lines : List Line) (old new : BankState) (notes : List Note) : Type 0 where
   pub front : Front Entry
   pub stands : StandsFor old front new

@@ -40,8 +40,8 @@ pub record IsFor (lines : List Line) (caller : ℕ) (note : Note) : Type 0 where
 
 -- ---- notes after it
 
--- The note tells the entry: it is the call of the note's line, by the line's caller, with the note's reply, and its data
--- where a read is done.
+-- The note tells the entry: it is the call of the note's line, by the line's caller, with the note's reply, and its
+-- data where a read is done.
 pub record Tells (lines : List Line) (note : Note) (e : Entry) : Type 0 where
   pub line : Line
   pub at : slice_get lines note.line ≡ Some line
@@ -68,7 +68,8 @@ pub record HasNote (notes : List Note) (place : ℕ) : Type 0 where
 -- Each note tells an entry of the front, and the entries stand in the order of the notes.
 pub record AllTell (lines : List Line) (notes : List Note) (front : Front Entry) : Type 0 where
   pub each : (j : ℕ) (note : Note) → slice_get notes j ≡ Some note → TellsIn lines note front
-  pub order : (j k : ℕ) (x y : Note) → j < k → slice_get notes j ≡ Some x → slice_get notes k ≡ Some y → x.position < y.position
+  pub order : (j k : ℕ) (x y : Note) → j < k → slice_get notes j ≡ Some x → slice_get notes k ≡ Some y
+      → x.position < y.position
 
 -- one of several workers has a note with this position
 pub record HasNoteOf (teams : List (List Note)) (place : ℕ) : Type 0 where
@@ -77,22 +78,25 @@ pub record HasNoteOf (teams : List (List Note)) (place : ℕ) : Type 0 where
   pub at : slice_get teams worker ≡ Some notes
   pub has : HasNote notes place
 
--- What workers have made together, where the pass took in all of theirs: each note of each tells the entry at its position in
--- what the pass has seen; and each entry there under a name that the pass owns is told by a note.
+-- What workers have made together, where the pass took in all of theirs: each note of each tells the entry at its
+-- position in what the pass has seen; and each entry there under a name that the pass owns is told by a note.
 pub record Ran (lines : List Line) (teams : List (List Note)) (p : PassView BankState Entry) : Type 0 where
   pub told : (w : ℕ) (notes : List Note) → slice_get teams w ≡ Some notes → AllTell lines notes p.seen
-  pub own : (place : ℕ) (pair : Name × Entry) → slice_get p.seen place ≡ Some pair → Owns p pair.0 → HasNoteOf teams place
+  pub own : (place : ℕ) (pair : Name × Entry) → slice_get p.seen place ≡ Some pair → Owns p pair.0
+      → HasNoteOf teams place
 
 -- the lines of the notes ascend
 abbrev pub Ascend : List Note → Type 0
-Ascend notes = (i j : ℕ) (x y : Note) → i < j → slice_get notes i ≡ Some x → slice_get notes j ≡ Some y → x.line < y.line
+Ascend notes =
+    (i j : ℕ) (x y : Note) → i < j → slice_get notes i ≡ Some x → slice_get notes j ≡ Some y → x.line < y.line
 
 -- ---- one worker, on its way
 
 -- the first m notes tell, in order, entries of the front
 pub record FirstTell (lines : List Line) (notes : List Note) (m : ℕ) (front : Front Entry) : Type 0 where
   pub each : (j : ℕ) (note : Note) → j < m → slice_get notes j ≡ Some note → TellsIn lines note front
-  pub order : (j k : ℕ) (x y : Note) → j < k → k < m → slice_get notes j ≡ Some x → slice_get notes k ≡ Some y → x.position < y.position
+  pub order : (j k : ℕ) (x y : Note) → j < k → k < m → slice_get notes j ≡ Some x → slice_get notes k ≡ Some y
+      → x.position < y.position
 
 -- one of the first m notes has this position
 pub record HasFirst (notes : List Note) (m place : ℕ) : Type 0 where
@@ -105,7 +109,8 @@ pub record HasFirst (notes : List Note) (m place : ℕ) : Type 0 where
 -- The first m notes were filled: they tell what the pass has made, and the rest is as it was before.
 pub record RanTo (lines : List Line) (notes : List Note) (m : ℕ) (p : PassView BankState Entry) : Type 0 where
   pub tell : FirstTell lines notes m p.seen
-  pub own : (place : ℕ) (pair : Name × Entry) → slice_get p.seen place ≡ Some pair → Owns p pair.0 → HasFirst notes m place
+  pub own : (place : ℕ) (pair : Name × Entry) → slice_get p.seen place ≡ Some pair → Owns p pair.0
+      → HasFirst notes m place
 
 -- each note is for a line of this caller
 abbrev pub AreFor : List Line → ℕ → List Note → Type 0

@@ -1,10 +1,11 @@
 //! A script that is raced for the bank of a file.
-ghost use Rattle.std.specs.Prelude.{◌≡◌, ◌≤◌, true, IsErr};
+ghost use Rattle.std.specs.Prelude.{◌≡◌, ◌≤◌, true, IsErr, IfOk};
 ghost use Rattle.nor_bus.specs.Cycles.{KeepsLanes};
 ghost use Rattle.nor_bus.specs.Driven.{AllLanes};
 ghost use Rattle.nor_image.specs.Loaded.{bus_of, loaded_width};
 ghost use Rattle.nor_run.specs.Built.{are_built};
-ghost use Rattle.nor_run.specs.Scripts.{IsJustLoaded, IsLoaded, HasRoom, ShowsQry, EndsRun, Reports, ReportsImage};
+ghost use Rattle.nor_run.specs.Causes.{MayHalt};
+ghost use Rattle.nor_run.specs.Scripts.{IsJustLoaded, IsLoaded, HasRoom, HasLetters, EndsRun, Reports, ReportsImage};
 ghost use Rattle.nor_script.specs.Script.{IsScript};
 
 use crate::gate::Gate;
@@ -32,9 +33,8 @@ fn race_loaded<R: Threads + Wait + Sync, G: Gate + Sync, K: Sink>(
     ensures width { loaded_width result.0 ≡ loaded_width loaded }
     ensures ends { EndsRun true (loaded_width loaded) (bus_of loaded).lanes
         (K.state out.old) (K.state out.new) result.1 }
-    ensures reports { AllLanes ShowsQry (bus_of loaded)
-        → Reports true (loaded_width loaded) script.now (bus_of loaded) (bus_of result.0)
-        (K.state out.old) (K.state out.new) result.1 }
+    ensures reports { Reports true (loaded_width loaded) script.now
+        (bus_of loaded) (bus_of result.0) (K.state out.old) (K.state out.new) result.1 }
     ensures lanes { KeepsLanes (bus_of loaded) (bus_of result.0) }
     ensures later { (K.state out.old).faults ≤ (K.state out.new).faults }
 {
@@ -50,10 +50,12 @@ fn race_loaded<R: Threads + Wait + Sync, G: Gate + Sync, K: Sink>(
 /// [`nor_run::run_image`], and `NoMemory`, which comes before the first line is run and puts nothing. After an
 /// error the bytes are as they were.
 ///
-/// Where the chips' tables begin with `QRY`, the report is that of one legal history of the plain array that
-/// opens with the bank's bytes, whatever the schedule of the threads; it has each caller's lines once, in
-/// that caller's order, and the file stands for a bank that is as before, but for its cells, which are the
-/// array's bytes.
+/// Whatever the schedule of the threads, the report is that of entries which have each caller's lines once, in
+/// that caller's order, and the file is that of the bank, whose chips stay what they are; after `Put` the sink
+/// has taken a first part of such a report. Where the chips' tables begin with `QRY`, the entries are one legal
+/// history of the plain array that opens with the bank's bytes and locks, and the file stands for a bank that
+/// is as before, but for its cells, which are the array's bytes after it; the bank halts only where a line arms
+/// a cut or a chip never ends its work.
 pub fn race_image<R: Threads + Wait + Sync, G: Gate + Sync, K: Sink>(
     rt: &R,
     alloc: Global,
@@ -69,9 +71,10 @@ pub fn race_image<R: Threads + Wait + Sync, G: Gate + Sync, K: Sink>(
     requires room { HasRoom file.old loaded }
     ensures ends { EndsRun true (loaded_width loaded) (bus_of loaded).lanes
         (K.state out.old) (K.state out.new) result }
-    ensures reports { AllLanes ShowsQry (bus_of loaded)
-        → ReportsImage true (loaded_width loaded) script.now (bus_of loaded)
+    ensures reports { ReportsImage true (loaded_width loaded) script.now (bus_of loaded)
         (K.state out.old) (K.state out.new) file.new result }
+    ensures caused { AllLanes HasLetters (bus_of loaded)
+        → IfOk result (λ ran. ran.halted ≡ true → MayHalt script.now (bus_of loaded).lanes) }
     ensures same { IsErr result → file.new ≡ file.old }
     ensures later { (K.state out.old).faults ≤ (K.state out.new).faults }
 {

@@ -27,8 +27,6 @@ mod race;
 mod raceable;
 mod report;
 mod team;
-#[cfg(test)]
-mod tests;
 mod work;
 
 pub use gate::{Gate, OpenGate, Stage};

@@ -37,7 +37,8 @@ fn room_of(word: &Word) -> usize
 // A note for a line, with room for its data.
 fn blank_note(alloc: Global, line: u32, word: &Word) -> Result<Note, NoMemory>
     ensures line { IfOk result (λ note. (note.line ≡ line) × (note.closes ≡ false)) }
-    ensures room { IfOk result (λ note. (op : OpOf) → word.now ≡ Call op → length note.bytes.items ≡ room_for op) }
+    ensures room { IfOk result (λ note. (op : OpOf) → word.now ≡ Call op
+        → length note.bytes.items ≡ room_for op) }
 {
     let bytes = vec![in alloc; 0; room_of(word)]?;
     Ok(Note {
@@ -54,7 +55,8 @@ fn blank_notes(alloc: Global, lines: &[Line], number: u8) -> Result<Vec<Note>, N
     requires lines { All CanRaceLine lines.now }
     requires few { length lines.now ≤ 2 ^ 16 }
     ensures for_caller { IfOk result (λ notes. AreFor lines.now number notes.items) }
-    ensures for_lines { IfOk result (λ notes. AreForLines lines.now number notes.items (lines_by number lines.now)) }
+    ensures for_lines { IfOk result (λ notes.
+        AreForLines lines.now number notes.items (lines_by number lines.now)) }
     ensures few { IfOk result (λ notes. length notes.items ≤ 2 ^ 16) }
 {
     let mut notes = Vec::new(alloc);

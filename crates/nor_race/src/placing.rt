@@ -22,7 +22,8 @@ fn put(notes: Vec<Note>, table: &mut Vec<Note>)
 
 /// Puts the notes of all racers at their places.
 pub(crate) fn put_all<W: BusWord, B: Bus<W>>(racers: Vec<Racer<W, B>>, table: &mut Vec<Note>)
-    requires within { All (λ note. note.position < length table.old.items) (all_of (notes_of racers.items)) }
+    requires within { All (λ note. note.position < length table.old.items)
+        (all_of (notes_of racers.items)) }
     ensures placed { Placed (all_of (notes_of racers.items)) table.old.items table.new.items }
 {
     let mut racers = racers;

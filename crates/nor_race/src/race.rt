@@ -38,7 +38,8 @@ fn prepare<W: BusWord, B: Bus<W>>(alloc: Global, lines: &[Line]) -> Result<Team<
     ensures few { IfOk result (λ team. length team.racers.items ≤ 8) }
     ensures each { IfOk result (λ team. All (CanStart lines.now) team.racers.items) }
     ensures team { IfOk result (λ team. IsTeam lines.now team.racers.items) }
-    ensures table { IfOk result (λ team. length team.table.items ≡ length (all_of (notes_of team.racers.items))) }
+    ensures table { IfOk result (λ team.
+        length team.table.items ≡ length (all_of (notes_of team.racers.items))) }
 {
     let racers = make_team(alloc, lines)?;
     let table = make_table(alloc, &racers)?;

@@ -1,15 +1,13 @@
 //! A script that is raced, and its history put.
 ghost use Rattle.std.specs.Prelude.{◌≡◌, ◌≤◌, ◌<◌, List, length, slice_get, true, Some, None, IfOk, IfErr, Err};
-ghost use Rattle.nor_array.specs.Array.{ArrayState};
 ghost use Rattle.nor_array.specs.declared.entry.Entry.{Entry};
-ghost use Rattle.nor_bank.specs.Work.{CanCall, KeepsBank};
+ghost use Rattle.nor_bank.specs.Work.{KeepsBank};
 ghost use Rattle.nor_bus.specs.Cycles.{KeepsLanes};
-ghost use Rattle.nor_bus.specs.Driven.{AllLanes};
 ghost use Rattle.nor_io.specs.Files.{Rose};
 ghost use Rattle.nor_io.specs.declared.sink.SinkError.TheVariants.{Fault};
 ghost use Rattle.nor_run.specs.Built.{are_built};
 ghost use Rattle.nor_run.specs.Running.{PutsReply, RunsLines, EndsLines, line_of_entry};
-ghost use Rattle.nor_run.specs.Scripts.{IsJustLoaded, ShowsQry, EndsRun, Reports};
+ghost use Rattle.nor_run.specs.Scripts.{IsJustLoaded, EndsRun, Reports};
 ghost use Rattle.nor_script.specs.Script.{IsScript};
 ghost use Rattle.nor_race.specs.Puts.{AreTold, HasHistory, PutsAll, PutsSome};
 ghost use Rattle.nor_race.specs.Teams.{CanRaceLines};
@@ -86,8 +84,8 @@ fn race_and_put<
 ) -> (Bank<W, B>, Result<Ran, RunError>)
     requires closed { bank.erase ≡ None }
     requires lines { CanRaceLines script.now }
-    ensures runs { (a : ArrayState) → CanCall bank a
-        → RunsLines true script.now bank result.0 a (K.state out.old) (K.state out.new) result.1 }
+    ensures runs { RunsLines true script.now bank result.0
+        (K.state out.old) (K.state out.new) result.1 }
     ensures ends { EndsLines true (K.state out.old) (K.state out.new) result.1 }
     ensures keeps { KeepsBank bank result.0 }
     ensures later { (K.state out.old).faults ≤ (K.state out.new).faults }
@@ -121,8 +119,7 @@ pub fn race_bank<
     requires built { are_built script.now ≡ true }
     requires loaded { IsJustLoaded W.WIDTH bank }
     ensures ends { EndsRun true W.WIDTH bank.lanes (K.state out.old) (K.state out.new) result.1 }
-    ensures reports { AllLanes ShowsQry bank
-        → Reports true W.WIDTH script.now bank result.0
+    ensures reports { Reports true W.WIDTH script.now bank result.0
         (K.state out.old) (K.state out.new) result.1 }
     ensures lanes { KeepsLanes bank result.0 }
     ensures later { (K.state out.old).faults ≤ (K.state out.new).faults }

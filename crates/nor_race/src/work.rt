@@ -27,7 +27,8 @@ fn call<R: Wait, W: BusWord, B: Bus<W>>(
     requires room { 2 ≤ caller.old.pass.room }
     requires raced { is_built_call op.now ≡ true }
     requires bytes { RoomFor op.now note.old.bytes.items }
-    ensures called { Called (driver.now).opening op.now note.new.bytes.items caller.old caller.new (answer_of note.new) }
+    ensures called { Called (driver.now).opening op.now note.new.bytes.items
+        caller.old caller.new (answer_of note.new) }
     ensures line { (note.new.line ≡ note.old.line) × (note.new.closes ≡ note.old.closes) }
 {
     let answer = match op {
@@ -86,7 +87,8 @@ pub(crate) fn run_lines<R: Wait, W: BusWord, B: Bus<W>, G: Gate>(
     requires room { length notes.old + 1 ≤ caller.old.pass.room }
     requires lines { AreFor lines.now caller.old.number notes.old }
     ensures ran { RanTo lines.now notes.new (length notes.old) caller.new.pass }
-    ensures caller { (caller.new.number ≡ caller.old.number) × WentOn (length notes.old) caller.old.pass caller.new.pass }
+    ensures caller { (caller.new.number ≡ caller.old.number)
+        × WentOn (length notes.old) caller.old.pass caller.new.pass }
     ensures length { length notes.new ≡ length notes.old }
     ensures lines { map (λ note. note.line) notes.new ≡ map (λ note. note.line) notes.old }
 {

@@ -14,7 +14,8 @@ blocks_from from (suc count) size = record { from = from; len = size } ∷ block
 -- the blocks of regions that lie end to end, from a place on
 abbrev pub laid : ℕ → List Region → List Span
 laid from [] = []
-laid from (region ∷ regions) = blocks_from from region.count region.size ++ laid (from + region.count * region.size) regions
+laid from (region ∷ regions) = blocks_from from region.count region.size
+    ++ laid (from + region.count * region.size) regions
 
 -- the blocks of a map
 abbrev pub spans_of : List Region → List Span

@@ -13,7 +13,8 @@ total_len regions = sum_by region_len regions
 
 -- 1 to 65,536 blocks of 128 to 16,776,960 bytes
 abbrev pub is_region : Region → Bool
-is_region region = nat_le 1 region.count && nat_le region.count 65536 && nat_le 128 region.size && nat_le region.size 16776960
+is_region region = nat_le 1 region.count && nat_le region.count 65536 && nat_le 128 region.size
+    && nat_le region.size 16776960
 
 abbrev pub are_regions : List Region → Bool
 are_regions regions = list_all is_region regions

@@ -16,8 +16,6 @@
 mod look;
 mod map;
 mod region;
-#[cfg(test)]
-mod tests;
 
 pub use map::{BlockMap, block_map};
 pub use region::{MAX_REGIONS, Region, RegionError, total_len};

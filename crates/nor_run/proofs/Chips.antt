@@ -1,11 +1,15 @@
 -- Chips that are gone through one by one.
-use Rattle.std.proofs.Common.{◌≡◌, ◌<◌, ◌≤◌, ◌+◌, ◌∙◌, ◌&&◌, ◌++◌, ◌∷◌, ℕ, suc, List, [], length, take, Bool, true, false, refl, sym, ap, arith}
+use Rattle.std.proofs.Common.{◌≡◌, ◌<◌, ◌≤◌, ◌+◌, ◌∙◌, ◌&&◌, ◌++◌, ◌∷◌, ℕ, suc, List, [], length, map, take, Bool, true, false, refl, sym, ap, arith}
 use Rattle.std.specs.List.{list_all}
 use Rattle.std.proofs.Math.Seq.{take-suc}
-use Rattle.std.proofs.lemmas.List.{take_all}
+use Rattle.std.proofs.lemmas.List.{length-map, take_all}
 use Rattle.nor_cell.specs.Chip.{ChipState}
 use Rattle.nor_bus.specs.Bus.{chip_at, no_chip}
 use Rattle.nor_run.specs.Built.{is_faultless}
+
+-- as many chips as lanes
+pub as_many : {C : Type 0} (state : C → ChipState) (xs : List C) (chips : List ChipState) → map state xs ≡ chips → length xs ≡ length chips
+as_many state xs chips are = sym (length-map xs state) ∙ ap (λ (cs : List ChipState). length cs) are
 
 pub next_chip : (chips : List ChipState) (n : ℕ) → n < length chips → take (n + 1) chips ≡ take n chips ++ chip_at chips n ∷ []
 next_chip chips n below = let more : n + 1 ≡ suc n = omega arith in ap (λ (m : ℕ). take m chips) more ∙ take-suc chips n no_chip below

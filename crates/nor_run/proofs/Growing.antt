@@ -1,5 +1,5 @@
 -- A history that grows, line by line.
-use Rattle.std.proofs.Common.{◌≡◌, ◌<◌, ◌≤◌, ◌+◌, ◌∙◌, ◌||◌, ◌&&◌, IfOk, IfErr, ◌++◌, ◌∷◌, ℕ, zero, suc, List, [], length, take, get_or, slice_index_or, Bool, true, false, Option, Some, None, Result, Ok, Err, refl, sym, ap, subst, arith, append_assoc, append-nil}
+use Rattle.std.proofs.Common.{◌≡◌, ◌<◌, ◌≤◌, ◌+◌, ◌∙◌, ◌||◌, ◌&&◌, IfOk, IfErr, ◌++◌, ◌∷◌, ℕ, zero, suc, List, [], length, take, get_or, slice_index_or, Bool, true, false, Result, Ok, Err, refl, sym, ap, subst, arith, append_assoc, append-nil}
 use Rattle.std.proofs.lemmas.List.{length-append, take_all}
 use Rattle.std.proofs.Math.Bool.{or-false}
 use Rattle.std.proofs.Math.Seq.{take-suc}
@@ -9,8 +9,7 @@ use Rattle.nor_io.specs.declared.sink.SinkError.TheVariants.{Fault, NoMemory}
 use Rattle.nor_io.proofs.Pieces.{Appends-append, AppendsPart-append}
 use Rattle.nor_io.proofs.Putting.{nothing_put}
 use Rattle.nor_cell.specs.Chip.{Part}
-use Rattle.nor_bus.specs.Bus.{BusState, lanes_of}
-use Rattle.nor_bus.specs.Cycles.{KeepsLanes}
+use Rattle.nor_bus.specs.Bus.{lanes_of}
 use Rattle.nor_bus.specs.Driven.{EachLane}
 use Rattle.nor_array.specs.Array.{ArrayState, is_locked}
 use Rattle.nor_array.specs.After.{after, after_all, after_reply}
@@ -21,7 +20,7 @@ use Rattle.nor_array.specs.declared.entry.Op.TheVariants.{Read, Program, EraseOp
 use Rattle.nor_array.specs.declared.entry.Reply.{Reply}
 use Rattle.nor_array.proofs.Histories.{after_last, legal_more}
 use Rattle.nor_array.proofs.Unlocked.{range_locks}
-use Rattle.nor_array.specs.Entries.{IsOf}
+use Rattle.nor_array.specs.Entries.{IsOf, is_halt, has_halt}
 use Rattle.nor_script.specs.Answering.{AnswersWord, AnswersRun}
 use Rattle.nor_script.specs.Report.{entry_lines}
 use Rattle.nor_script.specs.declared.line.Line.{Line}
@@ -35,7 +34,7 @@ use Rattle.nor_bank.specs.Stands.{Stands}
 use Rattle.nor_bank.specs.State.{BankState}
 use Rattle.nor_bank.specs.Work.{IsBuilt, CanCall, KeepsBank}
 use Rattle.nor_run.specs.Built.{is_built_call, is_built_word, are_built}
-use Rattle.nor_run.specs.Running.{PutsReply, RunsCall, RunsWord, IsHistoryOf, RunsWhole, RunsPart, RunsLines, EndsLines, line_of_entry, is_halt, has_halt}
+use Rattle.nor_run.specs.Running.{PutsReply, RunsCall, RunsWord, Leads, IsHistoryOf, RunsWhole, RunsPart, RunsLines, EndsLines, line_of_entry}
 use Rattle.nor_run.specs.Started.{of_put}
 use Rattle.nor_run.specs.declared.error.RunError.{RunError}
 use Rattle.nor_run.specs.declared.lines.Ran.{Ran}
@@ -95,39 +94,49 @@ still_unlocked a e built unlocked n =
 -- ---- one more line
 
 -- The first n lines were run, and more can be.
-pub record RunsSoFar (lines : List Line) (n : ℕ) (old now : BankState) (a : ArrayState) (before after : SinkState) (ran : Ran) : Type 0 where
+pub record RunsSoFar (lines : List Line) (n : ℕ) (old now : BankState) (before after : SinkState) (ran : Ran) : Type 0 where
   pub history : List Entry
-  pub is : IsHistoryOf false (take n lines) old now a history
+  pub is : IsHistoryOf false (take n lines) old now history
   pub text : Appends before.taken (entry_lines 0 history) after.taken
   pub entries : ran.entries ≡ length history
   pub halted : ran.halted ≡ has_halt history
-  pub can : CanCall now (after_all a history)
+  pub can : (a : ArrayState) → CanCall old a → CanCall now (after_all a history)
 
-pub no_line : (lines : List Line) (b : BankState) (a : ArrayState) (before : SinkState) → CanCall b a
-    → RunsSoFar lines 0 b b a before before (record { entries = 0; halted = false })
-no_line lines b a before can = record {
+pub no_line : (lines : List Line) (b : BankState) (before : SinkState)
+    → RunsSoFar lines 0 b b before before (record { entries = 0; halted = false })
+no_line lines b before = record {
   history = [];
-  is = record { legal = tt; answers = refl; stands = can.stands; lasts = lasts_self b a can.stands };
+  is = record { answers = refl; leads = λ a can. record { legal = tt; stands = can.stands; lasts = lasts_self b a can.stands } };
   text = nothing_put before.taken;
   entries = refl;
   halted = refl;
-  can = can;
+  can = λ a can. can;
+}
+
+-- an entry behind a history that leads to where its call was made
+leads_on : (old now new : BankState) (a : ArrayState) (es : List Entry) (e : Entry) → KeepsBank old now → Leads es old now a
+    → MakesEntry now new e (after_all a es) → EachLane Lasts now.bus new.bus → Leads (es ++ e ∷ []) old new a
+leads_on old now new a es e keeps leads makes lasts = record {
+  legal = legal_more (facts_of old) a es e leads.legal makes.admitted (subst (λ (f : Facts). Agrees f (after_all a es) e) (same_facts old now keeps) makes.agrees);
+  stands = subst (λ (x : ArrayState). Stands new x) (sym (after_last a es e)) makes.stands;
+  lasts = lasts_on old.bus now.bus new.bus keeps.lanes.count leads.lasts lasts;
 }
 
 -- an entry of a line behind a history of those before
-pub one_more : (lines : List Line) (n : ℕ) (line : Line) (op : Op) (old now new : BankState) (a : ArrayState) (es : List Entry) (e : Entry)
+pub one_more : (lines : List Line) (n : ℕ) (line : Line) (op : Op) (old now new : BankState) (es : List Entry) (e : Entry)
     → n < length lines → get_or lines n line ≡ line → line.word ≡ Call op → IsOf line.caller op e
-    → KeepsBank old now → IsHistoryOf false (take n lines) old now a es → MakesEntry now new e (after_all a es) → EachLane Lasts now.bus new.bus
-    → IsHistoryOf false (take (suc n) lines) old new a (es ++ e ∷ [])
-one_more lines n line op old now new a es e below at word of keeps is makes lasts = record {
-  legal = legal_more (facts_of old) a es e is.legal makes.admitted (subst (λ (f : Facts). Agrees f (after_all a es) e) (same_facts old now keeps) makes.agrees);
+    → KeepsBank old now → IsHistoryOf false (take n lines) old now es
+    → ((a : ArrayState) → CanCall old a → CanCall now (after_all a es))
+    → ((a : ArrayState) → CanCall now a → MakesEntry now new e a) → ((a : ArrayState) → CanCall now a → EachLane Lasts now.bus new.bus)
+    → IsHistoryOf false (take (suc n) lines) old new (es ++ e ∷ [])
+one_more lines n line op old now new es e below at word of keeps is can makes lasts = record {
   answers =
       let one : AnswersWord line.word line.caller (e ∷ []) = subst (λ (w : Word). AnswersWord w line.caller (e ∷ [])) (sym word) of in
       let more : AnswersRun (take n lines ++ line ∷ []) (es ++ e ∷ []) =
       answers_more (take n lines) (line ∷ []) es (e ∷ []) is.answers (answers_line line (e ∷ []) one) in
       subst (λ (ls : List Line). AnswersRun ls (es ++ e ∷ [])) (sym (take-suc lines n line below ∙ ap (λ (l : Line). take n lines ++ l ∷ []) at)) more;
-  stands = subst (λ (x : ArrayState). Stands new x) (sym (after_last a es e)) makes.stands;
-  lasts = lasts_on old.bus now.bus new.bus keeps.lanes.count is.lasts lasts;
+  leads = λ a first.
+      leads_on old now new a es e keeps (is.leads a first) (makes (after_all a es) (can a first)) (lasts (after_all a es) (can a first));
 }
 
 -- its text behind theirs
@@ -136,74 +145,81 @@ text_more es e n is =
     let there : 0 + length es ≡ n = omega (arith, is) in
     lines_last 0 es e ∙ ap (λ (k : ℕ). entry_lines 0 es ++ line_of_entry k e) there
 
-line_more : (lines : List Line) (n : ℕ) (line : Line) (op : Op) (old now new : BankState) (a : ArrayState) (before mid after : SinkState) (ran : Ran) (reply : Reply)
+-- calls go on to be built for the bank and the array after an entry
+still_can : (now new : BankState) (a : ArrayState) (es : List Entry) (e : Entry) → KeepsBank now new → is_built_call e.op ≡ true
+    → CanCall now (after_all a es) → MakesEntry now new e (after_all a es) → CanCall new (after_all a (es ++ e ∷ []))
+still_can now new a es e next built can makes = record {
+  stands = subst (λ (x : ArrayState). Stands new x) (sym (after_last a es e)) makes.stands;
+  closed = next.erase can.closed;
+  built = still_built now new next can.built;
+  unlocked = subst (λ (x : ArrayState). (k : ℕ) → is_locked x k ≡ false) (sym (after_last a es e))
+      (still_unlocked (after_all a es) e built can.unlocked);
+}
+
+line_more : (lines : List Line) (n : ℕ) (line : Line) (op : Op) (old now new : BankState) (before mid after : SinkState) (ran : Ran) (reply : Reply)
     → n < length lines → get_or lines n line ≡ line → line.word ≡ Call op → is_built_call op ≡ true
     → KeepsBank old now → KeepsBank now new
-    → (so : RunsSoFar lines n old now a before mid ran)
-    → RunsCall line.caller op ran.entries now new (after_all a so.history) mid after (Ok reply)
-    → RunsSoFar lines (suc n) old new a before after (record { entries = ran.entries + 1; halted = ran.halted || is_halt reply })
-line_more lines n line op old now new a before mid after ran reply below at word built keeps next so runs =
+    → RunsSoFar lines n old now before mid ran
+    → RunsCall line.caller op ran.entries now new mid after (Ok reply)
+    → RunsSoFar lines (suc n) old new before after (record { entries = ran.entries + 1; halted = ran.halted || is_halt reply })
+line_more lines n line op old now new before mid after ran reply below at word built keeps next so runs =
     let e = runs.entry in
     record {
       history = so.history ++ e ∷ [];
-      is = one_more lines n line op old now new a so.history e below at word runs.is keeps so.is runs.makes runs.lasts;
+      is = one_more lines n line op old now new so.history e below at word runs.is keeps so.is so.can runs.makes runs.lasts;
       text = subst (λ (t : List ℕ). Appends before.taken t after.taken) (sym (text_more so.history e ran.entries so.entries))
           (Appends-append before.taken mid.taken after.taken (entry_lines 0 so.history) (line_of_entry ran.entries e) so.text runs.puts.1);
       entries = ap (λ (k : ℕ). k + 1) so.entries ∙ sym (length-append so.history (e ∷ []));
       halted = (λ i. so.halted i || is_halt (runs.puts.0 i)) ∙ sym (halt_last so.history e);
-      can = record {
-        stands = subst (λ (x : ArrayState). Stands new x) (sym (after_last a so.history e)) runs.makes.stands;
-        closed = next.erase so.can.closed;
-        built = still_built now new next so.can.built;
-        unlocked = subst (λ (x : ArrayState). (k : ℕ) → is_locked x k ≡ false) (sym (after_last a so.history e))
-            (still_unlocked (after_all a so.history) e (ap is_built_call runs.is.calls ∙ built) so.can.unlocked);
-      };
+      can = λ a first.
+          let can = so.can a first in
+          still_can now new a so.history e next (ap is_built_call runs.is.calls ∙ built) can (runs.makes (after_all a so.history) can);
     }
 
 -- the line after the first n was run
-pub word_more : (lines : List Line) (n : ℕ) (line : Line) (word : Word) (old now new : BankState) (a : ArrayState) (before mid after : SinkState) (ran : Ran) (reply : Reply)
+pub word_more : (lines : List Line) (n : ℕ) (line : Line) (word : Word) (old now new : BankState) (before mid after : SinkState) (ran : Ran) (reply : Reply)
     → n < length lines → get_or lines n line ≡ line → line.word ≡ word → is_built_word word ≡ true
     → KeepsBank old now → KeepsBank now new
-    → (so : RunsSoFar lines n old now a before mid ran)
-    → RunsWord word line.caller ran.entries now new (after_all a so.history) mid after (Ok reply)
-    → RunsSoFar lines (n + 1) old new a before after (record { entries = ran.entries + 1; halted = ran.halted || is_halt reply })
-word_more lines n line (Call op) old now new a before mid after ran reply below at word built keeps next so runs =
+    → RunsSoFar lines n old now before mid ran
+    → RunsWord word line.caller ran.entries now new mid after (Ok reply)
+    → RunsSoFar lines (n + 1) old new before after (record { entries = ran.entries + 1; halted = ran.halted || is_halt reply })
+word_more lines n line (Call op) old now new before mid after ran reply below at word built keeps next so runs =
     let more : suc n ≡ n + 1 = omega arith in
-    subst (λ (m : ℕ). RunsSoFar lines m old new a before after (record { entries = ran.entries + 1; halted = ran.halted || is_halt reply })) more
-    (line_more lines n line op old now new a before mid after ran reply below at word built keeps next so runs)
-word_more lines n line (Erase b) old now new a before mid after ran reply below at word built keeps next so runs = absurd runs
-word_more lines n line EraseAllLine old now new a before mid after ran reply below at word built keeps next so runs = absurd runs
+    subst (λ (m : ℕ). RunsSoFar lines m old new before after (record { entries = ran.entries + 1; halted = ran.halted || is_halt reply })) more
+    (line_more lines n line op old now new before mid after ran reply below at word built keeps next so runs)
+word_more lines n line (Erase b) old now new before mid after ran reply below at word built keeps next so runs = absurd runs
+word_more lines n line EraseAllLine old now new before mid after ran reply below at word built keeps next so runs = absurd runs
 
 -- its entry wasn't put whole
 pub part_put : (text : List ℕ) (reply : Reply) (before after : SinkState) (error : SinkError) → PutsReply text reply before after (Err error) → AppendsPart before.taken text after.taken
 part_put text reply before after Fault puts = puts.1
 part_put text reply before after NoMemory puts = puts
 
-pub word_stopped : (lines : List Line) (n : ℕ) (line : Line) (word : Word) (old now new : BankState) (a : ArrayState) (before mid after : SinkState) (ran : Ran) (error : SinkError)
+pub word_stopped : (lines : List Line) (n : ℕ) (line : Line) (word : Word) (old now new : BankState) (before mid after : SinkState) (ran : Ran) (error : SinkError)
     → n < length lines → get_or lines n line ≡ line → line.word ≡ word → KeepsBank old now
-    → (so : RunsSoFar lines n old now a before mid ran)
-    → RunsWord word line.caller ran.entries now new (after_all a so.history) mid after (Err error)
-    → RunsPart false lines old new a before after
-word_stopped lines n line (Erase b) old now new a before mid after ran error below at word keeps so runs = absurd runs
-word_stopped lines n line EraseAllLine old now new a before mid after ran error below at word keeps so runs = absurd runs
-word_stopped lines n line (Call op) old now new a before mid after ran error below at word keeps so runs =
+    → RunsSoFar lines n old now before mid ran
+    → RunsWord word line.caller ran.entries now new mid after (Err error)
+    → RunsPart false lines old new before after
+word_stopped lines n line (Erase b) old now new before mid after ran error below at word keeps so runs = absurd runs
+word_stopped lines n line EraseAllLine old now new before mid after ran error below at word keeps so runs = absurd runs
+word_stopped lines n line (Call op) old now new before mid after ran error below at word keeps so runs =
     let e = runs.entry in
     record {
       history = so.history ++ e ∷ [];
       count = suc n;
       all = tt;
-      is = one_more lines n line op old now new a so.history e below at word runs.is keeps so.is runs.makes runs.lasts;
+      is = one_more lines n line op old now new so.history e below at word runs.is keeps so.is so.can runs.makes runs.lasts;
       text = subst (λ (t : List ℕ). AppendsPart before.taken t after.taken) (sym (text_more so.history e ran.entries so.entries))
           (AppendsPart-append before.taken mid.taken after.taken (entry_lines 0 so.history) (line_of_entry ran.entries e) so.text
           (part_put (line_of_entry ran.entries e) e.reply mid after error runs.puts));
     }
 
 -- all lines were
-pub all_run : (lines : List Line) (n : ℕ) (old new : BankState) (a : ArrayState) (before after : SinkState) (ran : Ran)
-    → length lines ≤ n → RunsSoFar lines n old new a before after ran → RunsWhole false lines old new a before after ran
-all_run lines n old new a before after ran over so = record {
+pub all_run : (lines : List Line) (n : ℕ) (old new : BankState) (before after : SinkState) (ran : Ran)
+    → length lines ≤ n → RunsSoFar lines n old new before after ran → RunsWhole false lines old new before after ran
+all_run lines n old new before after ran over so = record {
   history = so.history;
-  is = subst (λ (ls : List Line). IsHistoryOf false ls old new a so.history) (take_all n lines over) so.is;
+  is = subst (λ (ls : List Line). IsHistoryOf false ls old new so.history) (take_all n lines over) so.is;
   text = so.text;
   entries = so.entries;
   halted = so.halted;
@@ -230,19 +246,17 @@ line_built (x ∷ lines) (suc n) line below built = line_built lines n line (ome
 
 -- ---- what one thread puts
 
-put_runs_as : (lines : List Line) (old new : BankState) (a : ArrayState) (before after : SinkState) (ran : Result Ran SinkError) → CanCall old a
-    → IfOk ran (λ r. (x : ArrayState) → CanCall old x → RunsWhole false lines old new x before after r)
-    → IfErr ran (λ e. (x : ArrayState) → CanCall old x → RunsPart false lines old new x before after)
-    → RunsLines false lines old new a before after (of_put ran)
-put_runs_as lines old new a before after (Ok r) can whole part = whole a can
-put_runs_as lines old new a before after (Err e) can whole part = part a can
+put_runs_as : (lines : List Line) (old new : BankState) (before after : SinkState) (ran : Result Ran SinkError)
+    → IfOk ran (RunsWhole false lines old new before after) → IfErr ran (λ e. RunsPart false lines old new before after)
+    → RunsLines false lines old new before after (of_put ran)
+put_runs_as lines old new before after (Ok r) whole part = whole
+put_runs_as lines old new before after (Err e) whole part = part
 
-pub put_runs : (lines : List Line) (old new : BankState) (a : ArrayState) (before after : SinkState) (ran : Result Ran SinkError) (result : Result Ran RunError) → CanCall old a → result ≡ of_put ran
-    → IfOk ran (λ r. (x : ArrayState) → CanCall old x → RunsWhole false lines old new x before after r)
-    → IfErr ran (λ e. (x : ArrayState) → CanCall old x → RunsPart false lines old new x before after)
-    → RunsLines false lines old new a before after result
-put_runs lines old new a before after ran result can put whole part =
-    subst (λ (r : Result Ran RunError). RunsLines false lines old new a before after r) (sym put) (put_runs_as lines old new a before after ran can whole part)
+pub put_runs : (lines : List Line) (old new : BankState) (before after : SinkState) (ran : Result Ran SinkError) (result : Result Ran RunError) → result ≡ of_put ran
+    → IfOk ran (RunsWhole false lines old new before after) → IfErr ran (λ e. RunsPart false lines old new before after)
+    → RunsLines false lines old new before after result
+put_runs lines old new before after ran result put whole part =
+    subst (λ (r : Result Ran RunError). RunsLines false lines old new before after r) (sym put) (put_runs_as lines old new before after ran whole part)
 
 -- it stops for want of nothing but the sink
 put_ends_as : (race : Bool) (before after : SinkState) (ran : Result Ran SinkError) → (ran ≡ Err Fault → Rose before.faults after.faults) → EndsLines race before after (of_put ran)

@@ -1,10 +1,10 @@
 -- A bank that was just loaded, shows `QRY` in every lane, and is found, can be started.
 use Rattle.std.proofs.Common.{◌≡◌, ◌<◌, ◌≤◌, ◌∙◌, ℕ, zero, suc, List, length, replicate, slice_index, slice_index_or, Bool, true, false, if◌then◌else◌, [], Some, None, refl, sym, ap, subst, arith}
 use Rattle.std.proofs.lemmas.List.{length-replicate}
-use Rattle.nor_cell.specs.Chip.{ChipState, Mode, Array, Fault, NoFault}
+use Rattle.nor_cell.specs.Chip.{ChipState}
 use Rattle.nor_cell.specs.Power.{locks_after}
 use Rattle.nor_cell.specs.Ranges.{IsChip}
-use Rattle.nor_cell.specs.Between.{IsIdle, reset}
+use Rattle.nor_cell.specs.Between.{IsQuiet, IsIdle, reset}
 use Rattle.nor_cell.proofs.Between.{rests_idle}
 use Rattle.nor_cell.specs.Table.{field_8, set_of, has_locks}
 use Rattle.nor_cell.specs.declared.device.Set.{Set}
@@ -26,11 +26,11 @@ use Rattle.nor_probe.specs.WellWired.{IsAsItsTable, shown_table}
 use Rattle.nor_probe.specs.declared.probing.Found.{Found}
 use Rattle.nor_probe.proofs.OneTable.{shown_later, table_shown, one_table}
 use Rattle.nor_probe.proofs.OwnWiring.{ShowQry, own_first}
-use Rattle.nor_bank.specs.Stands.{IsQuiet, CanStart}
+use Rattle.nor_bank.specs.Stands.{CanStart}
 use Rattle.nor_image.specs.Image.{IsImageOf, kept_locks, locks_of, machine_of, record_place, table_in}
 use Rattle.nor_image.specs.Written.{bank_set}
 use Rattle.nor_image.proofs.Sizes.{size_of_table}
-use Rattle.nor_run.specs.Scripts.{IsJustPowered, IsJustLoaded, ShowsQry}
+use Rattle.nor_run.specs.Scripts.{IsJustPowered, IsJustLoaded, HasLetters}
 
 -- ---- locks after power-on
 
@@ -72,7 +72,7 @@ same_lanes old new count quiet resets =
 
 -- ---- what was found of it
 
-module _ (width : ℕ) (bus : BusState) (loaded : IsJustLoaded width bus) (ranges : AllLanes IsChip bus) (qry : AllLanes ShowsQry bus)
+module _ (width : ℕ) (bus : BusState) (loaded : IsJustLoaded width bus) (ranges : AllLanes IsChip bus) (qry : AllLanes HasLetters bus)
     (found : Found) (is : IsFoundOn width bus.lanes found) where
   abbrev own : Geometry
   own = wiring (length bus.lanes) loaded.device

@@ -1,10 +1,11 @@
 -- From a bank that was started to the bank that was loaded.
-use Rattle.std.proofs.Common.{◌≡◌, ◌≢◌, ◌<◌, ◌≤◌, ◌*◌, ◌&&◌, ◌==◌, ◌∙◌, not, ℕ, zero, suc, List, [], ◌∷◌, length, take, map, Bool, true, false, Option, Some, None, Result, Ok, Err, refl, sym, ap, subst, arith}
+use Rattle.std.proofs.Common.{◌≡◌, ◌≢◌, ◌<◌, ◌≤◌, ◌*◌, ◌==◌, ◌∙◌, not, ℕ, zero, suc, List, [], ◌∷◌, length, take, map, Bool, true, false, Option, Some, None, Result, Ok, Err, refl, sym, ap, subst, arith}
 use Rattle.std.specs.List.{list_all}
 use Rattle.nor_io.specs.Files.{SinkState, Appends, AppendsPart}
 use Rattle.nor_io.specs.declared.sink.SinkError.{SinkError}
 use Rattle.nor_io.specs.declared.sink.SinkError.TheVariants.{Fault, NoMemory}
 use Rattle.nor_io.proofs.Pieces.{Appends-append, AppendsPart-append, AppendsPart-more}
+use Rattle.nor_io.proofs.Putting.{none_left}
 use Rattle.nor_cell.proofs.Logic.{both_pass}
 use Rattle.nor_cell.specs.Chip.{ChipState}
 use Rattle.nor_cell.specs.Ranges.{IsChip}
@@ -41,8 +42,8 @@ use Rattle.nor_image.specs.Written.{file_of, Stores}
 use Rattle.nor_cell.specs.Power.{powered}
 use Rattle.nor_run.specs.Built.{is_faultless, is_built_bank}
 use Rattle.nor_bank.specs.Work.{CanCall, KeepsBank}
-use Rattle.nor_run.specs.Running.{IsCount, IsHistoryOf, RunsWhole, RunsPart, RunsLines, EndsLines, ReportsWhole, ReportsPart, ReportsLines, counters_of}
-use Rattle.nor_run.specs.Scripts.{IsJustLoaded, IsLoaded, HasRoom, ShowsQry, RunsImage, started, opening_of, HoldsBytes, RunsLegally, EndsRun, Reports}
+use Rattle.nor_run.specs.Running.{IsCount, Leads, IsHistoryOf, RunsWhole, RunsPart, RunsLines, EndsLines, ReportsWhole, ReportsPart, ReportsLines, counters_of}
+use Rattle.nor_run.specs.Scripts.{IsJustLoaded, IsLoaded, HasRoom, HasLetters, RunsImage, started, opening_of, HoldsBytes, StandsOn, RunsLegally, IsRunOf, RunsScript, IsRunnable, EndsRun, Reports}
 use Rattle.nor_run.specs.Started.{IsStarted, Starts, Refuses}
 use Rattle.nor_run.specs.declared.error.RunError.{RunError}
 use Rattle.nor_run.specs.declared.error.RunError.TheVariants.{Probe, NotBuilt, NoMemory as Memory, Put}
@@ -52,10 +53,10 @@ use Rattle.nor_run.proofs.JustLoaded.{just_loaded, quiet_rests, same_lanes, can_
 
 -- ---- the report behind the lines
 
-pub report_whole : (race : Bool) (lines : List Line) (old new : BankState) (a : ArrayState) (before mid after : SinkState) (ran : Ran)
-    → RunsWhole race lines old new a before mid ran → Appends mid.taken (totals_text (counters_of new.bus.lanes) ran.entries) after.taken
-    → ReportsWhole race lines old new a before after ran
-report_whole race lines old new a before mid after ran runs totals = record {
+pub report_whole : (race : Bool) (lines : List Line) (old new : BankState) (before mid after : SinkState) (ran : Ran)
+    → RunsWhole race lines old new before mid ran → Appends mid.taken (totals_text (counters_of new.bus.lanes) ran.entries) after.taken
+    → ReportsWhole race lines old new before after ran
+report_whole race lines old new before mid after ran runs totals = record {
   history = runs.history;
   is = runs.is;
   text = Appends-append before.taken mid.taken after.taken (entry_lines 0 runs.history) (totals_text (counters_of new.bus.lanes) (length runs.history)) runs.text
@@ -64,19 +65,19 @@ report_whole race lines old new a before mid after ran runs totals = record {
   halted = runs.halted;
 }
 
-part_text : (text : List ℕ) (before after : SinkState) (error : SinkError) → PutsText text before after (Err error) → AppendsPart before.taken text after.taken
+pub part_text : (text : List ℕ) (before after : SinkState) (error : SinkError) → PutsText text before after (Err error) → AppendsPart before.taken text after.taken
 part_text text before after Fault puts = puts.1
 part_text text before after NoMemory puts = puts
 
-pub report_part : (race : Bool) (lines : List Line) (old new : BankState) (a : ArrayState) (before mid after : SinkState) (ran : Ran) (error : SinkError)
-    → RunsWhole race lines old new a before mid ran
+pub report_part : (race : Bool) (lines : List Line) (old new : BankState) (before mid after : SinkState) (ran : Ran) (error : SinkError)
+    → RunsWhole race lines old new before mid ran
     → PutsText (totals_text (counters_of new.bus.lanes) ran.entries) mid after (Err error)
-    → ReportsPart race lines old new a before after
-report_part race lines old new a before mid after ran error runs puts = record {
+    → ReportsPart race lines old new before after
+report_part race lines old new before mid after ran error runs puts = record {
   history = runs.history;
   count = length lines;
   all = whole_count race;
-  is = subst (λ (ls : List Line). IsHistoryOf race ls old new a runs.history) (sym (whole_list lines)) runs.is;
+  is = subst (λ (ls : List Line). IsHistoryOf race ls old new runs.history) (sym (whole_list lines)) runs.is;
   text = AppendsPart-append before.taken mid.taken after.taken (entry_lines 0 runs.history) (totals_text (counters_of new.bus.lanes) (length runs.history)) runs.text
       (subst (λ (n : ℕ). AppendsPart mid.taken (totals_text (counters_of new.bus.lanes) n) after.taken) runs.entries
       (part_text (totals_text (counters_of new.bus.lanes) ran.entries) mid after error puts));
@@ -90,8 +91,8 @@ report_part race lines old new a before mid after ran error runs puts = record {
     whole_list [] = refl
     whole_list (l ∷ ls) = ap (λ (rest : List Line). l ∷ rest) (whole_list ls)
 
-pub report_stopped : (race : Bool) (lines : List Line) (old new : BankState) (a : ArrayState) (before after : SinkState) → RunsPart race lines old new a before after → ReportsPart race lines old new a before after
-report_stopped race lines old new a before after runs = record {
+pub report_stopped : (race : Bool) (lines : List Line) (old new : BankState) (before after : SinkState) → RunsPart race lines old new before after → ReportsPart race lines old new before after
+report_stopped race lines old new before after runs = record {
   history = runs.history;
   count = runs.count;
   all = runs.all;
@@ -100,21 +101,21 @@ report_stopped race lines old new a before after runs = record {
 }
 
 -- the end of a report, put or not
-pub end_whole : (race : Bool) (lines : List Line) (old new : BankState) (bus : BusState) (a : ArrayState) (before mid after : SinkState) (why : Result Ran RunError) (ran : Ran)
-    → why ≡ Ok ran → new.bus ≡ bus → RunsLines race lines old new a before mid why
-    → Appends mid.taken (totals_text (counters_of bus.lanes) ran.entries) after.taken → ReportsWhole race lines old new a before after ran
-end_whole race lines old new bus a before mid after why ran is same runs totals =
-    report_whole race lines old new a before mid after ran
-    (subst (λ (r : Result Ran RunError). RunsLines race lines old new a before mid r) is runs)
+pub end_whole : (race : Bool) (lines : List Line) (old new : BankState) (bus : BusState) (before mid after : SinkState) (why : Result Ran RunError) (ran : Ran)
+    → why ≡ Ok ran → new.bus ≡ bus → RunsLines race lines old new before mid why
+    → Appends mid.taken (totals_text (counters_of bus.lanes) ran.entries) after.taken → ReportsWhole race lines old new before after ran
+end_whole race lines old new bus before mid after why ran is same runs totals =
+    report_whole race lines old new before mid after ran
+    (subst (λ (r : Result Ran RunError). RunsLines race lines old new before mid r) is runs)
     (subst (λ (b : BusState). Appends mid.taken (totals_text (counters_of b.lanes) ran.entries) after.taken) (sym same) totals)
 
-pub end_part : (race : Bool) (lines : List Line) (old new : BankState) (bus : BusState) (a : ArrayState) (before mid after : SinkState) (why : Result Ran RunError) (ran : Ran) (error : SinkError)
-    → why ≡ Ok ran → new.bus ≡ bus → RunsLines race lines old new a before mid why
+pub end_part : (race : Bool) (lines : List Line) (old new : BankState) (bus : BusState) (before mid after : SinkState) (why : Result Ran RunError) (ran : Ran) (error : SinkError)
+    → why ≡ Ok ran → new.bus ≡ bus → RunsLines race lines old new before mid why
     → PutsText (totals_text (counters_of bus.lanes) ran.entries) mid after (Err error)
-    → ReportsPart race lines old new a before after
-end_part race lines old new bus a before mid after why ran error is same runs totals =
-    report_part race lines old new a before mid after ran error
-    (subst (λ (r : Result Ran RunError). RunsLines race lines old new a before mid r) is runs)
+    → ReportsPart race lines old new before after
+end_part race lines old new bus before mid after why ran error is same runs totals =
+    report_part race lines old new before mid after ran error
+    (subst (λ (r : Result Ran RunError). RunsLines race lines old new before mid r) is runs)
     (subst (λ (b : BusState). PutsText (totals_text (counters_of b.lanes) ran.entries) mid after (Err error)) (sym same) totals)
 
 pub end_fails : (race : Bool) (text : List ℕ) (before mid after : SinkState) (error : SinkError) → before.faults ≤ mid.faults
@@ -124,12 +125,12 @@ end_fails race text before mid after Fault le puts = let rose = puts.0 in omega 
 end_fails race text before mid after NoMemory le puts = tt
 
 -- what was put of the lines is a part of the report, or nothing
-pub reports_failed : (race : Bool) (lines : List Line) (old new : BankState) (a : ArrayState) (before after : SinkState) (error : RunError)
-    → RunsLines race lines old new a before after (Err error) → ReportsLines race lines old new a before after (Err error)
-reports_failed race lines old new a before after (Probe e) runs = runs
-reports_failed race lines old new a before after NotBuilt runs = runs
-reports_failed race lines old new a before after Memory runs = runs
-reports_failed race lines old new a before after (Put e) runs = report_stopped race lines old new a before after runs
+pub reports_failed : (race : Bool) (lines : List Line) (old new : BankState) (before after : SinkState) (error : RunError)
+    → RunsLines race lines old new before after (Err error) → ReportsLines race lines old new before after (Err error)
+reports_failed race lines old new before after (Probe e) runs = runs
+reports_failed race lines old new before after NotBuilt runs = runs
+reports_failed race lines old new before after Memory runs = runs
+reports_failed race lines old new before after (Put e) runs = report_stopped race lines old new before after runs
 
 -- ---- a bank that was just started
 
@@ -153,15 +154,8 @@ opens width bus b is =
 
 -- ---- what can be run
 
-no_weak : (xs : List ℕ) → (length xs == 0) ≡ true → xs ≡ []
-no_weak [] is = refl
-no_weak (x ∷ xs) is = absurd (not_zero (length xs) is)
-  where
-    not_zero : (n : ℕ) → (suc n == 0) ≡ true → ⊥
-    not_zero n is = grind (arith, is)
-
 chip_sound : (s : ChipState) → is_faultless s ≡ true → IsSound s
-chip_sound s is = no_weak s.part.weak (both_pass (length s.part.weak == 0) (not s.part.stuck) is).0
+chip_sound s is = none_left s.part.weak (length s.part.weak == 0) refl (both_pass (length s.part.weak == 0) (not s.part.stuck) is).0
 
 all_sound : (chips : List ChipState) → list_all is_faultless chips ≡ true → (c : ℕ) → c < length chips → IsSound (chip_at chips c)
 all_sound [] all c below = absurd (omega (arith, below))
@@ -199,70 +193,83 @@ holds_bytes b new a closed keeps stands =
           ∙ ap (λ (f : Found). bank_byte f.geometry.device new.bus.lanes p) keeps.found;
     }
 
-pub runs_legally : (race : Bool) (width : ℕ) (bus : BusState) (lines : List Line) (b new : BankState) (es : List Entry) → IsStarted width bus b
-    → KeepsBank b new → IsHistoryOf race lines b new (opening_array b) es → RunsLegally race width lines bus new.bus b.found es
-runs_legally race width bus lines b new es is keeps history =
+runs_legally : (width : ℕ) (bus : BusState) (b new : BankState) (es : List Entry) → IsStarted width bus b
+    → KeepsBank b new → Leads es b new (opening_array b) → RunsLegally bus new.bus b.found es
+runs_legally width bus b new es is keeps leads =
     let open_ = opens width bus b is in
     record {
-      is_found = is.is_found;
       legal = subst (λ (f : Facts). Legal f (opening_of b.found bus) es) (same_facts width bus b is)
-          (subst (λ (a : ArrayState). Legal (facts_of b) a es) open_ history.legal);
-      answers = history.answers;
-      count = keeps.lanes.count ∙ ap (λ (chips : List ChipState). length chips) is.lanes;
+          (subst (λ (a : ArrayState). Legal (facts_of b) a es) open_ leads.legal);
       lasts = λ c below.
           subst (λ (chips : List ChipState). Lasts (chip_at chips c) (lane new.bus c)) is.lanes
-          (history.lasts c (subst (λ (chips : List ChipState). c < length chips) (sym is.lanes) below));
+          (leads.lasts c (subst (λ (chips : List ChipState). c < length chips) (sym is.lanes) below));
+      stands = subst (λ (a : ArrayState). StandsOn b.found new.bus (after_all a es)) open_
+          (record { bank = new; on = refl; is = keeps.found; stands = leads.stands });
       holds = subst (λ (a : ArrayState). HoldsBytes b.found new.bus (after_all a es)) open_
-          (holds_bytes b new (after_all (opening_array b) es) is.erase keeps history.stands);
+          (holds_bytes b new (after_all (opening_array b) es) is.erase keeps leads.stands);
     }
+
+is_run : (race : Bool) (width : ℕ) (bus : BusState) (lines : List Line) (b new : BankState) (es : List Entry) → Starts width bus b
+    → KeepsBank b new → IsHistoryOf race lines b new es → IsRunOf race width lines bus new.bus es
+is_run race width bus lines b new es starts keeps history = record {
+  found = b.found;
+  is_found = starts.is_found;
+  answers = history.answers;
+  kept = keeps_then bus b.bus new.bus starts.kept keeps.lanes;
+  legal = λ qry.
+      let is = starts.started qry in
+      runs_legally width bus b new es is keeps (history.leads (opening_array b) (can_run width bus b is starts.built starts.locks));
+}
 
 -- ---- what was put
 
 reports_as : (race : Bool) (width : ℕ) (bus : BusState) (lines : List Line) (b new : BankState) (before after : SinkState) (result : Result Ran RunError)
-    → IsStarted width bus b → KeepsBank b new → ReportsLines race lines b new (opening_array b) before after result
+    → Starts width bus b → KeepsBank b new → ReportsLines race lines b new before after result
     → Reports race width lines bus new.bus before after result
-reports_as race width bus lines b new before after (Ok ran) is keeps told = record {
-  found = b.found;
+reports_as race width bus lines b new before after (Ok ran) starts keeps told = record {
   history = told.history;
-  runs = runs_legally race width bus lines b new told.history is keeps told.is;
+  runs = is_run race width bus lines b new told.history starts keeps told.is;
   text = told.text;
   entries = told.entries;
   halted = told.halted;
 }
-reports_as race width bus lines b new before after (Err (Probe error)) is keeps told = tt
-reports_as race width bus lines b new before after (Err NotBuilt) is keeps told = tt
-reports_as race width bus lines b new before after (Err Memory) is keeps told = tt
-reports_as race width bus lines b new before after (Err (Put error)) is keeps told = record {
-  found = b.found;
+reports_as race width bus lines b new before after (Err (Probe error)) starts keeps told = tt
+reports_as race width bus lines b new before after (Err NotBuilt) starts keeps told = tt
+reports_as race width bus lines b new before after (Err Memory) starts keeps told = tt
+reports_as race width bus lines b new before after (Err (Put error)) starts keeps told = record {
   history = told.history;
   count = told.count;
   all = told.all;
-  runs = runs_legally race width bus (take told.count lines) b new told.history is keeps told.is;
+  runs = is_run race width bus (take told.count lines) b new told.history starts keeps told.is;
   text = told.text;
 }
 
 pub reports : (race : Bool) (width : ℕ) (bus : BusState) (lines : List Line) (b new : BankState) (stopped : BusState) (before after : SinkState) (result : Result Ran RunError)
-    → Starts width bus b → stopped ≡ new.bus → KeepsBank b new
-    → ((a : ArrayState) → CanCall b a → ReportsLines race lines b new a before after result)
-    → AllLanes ShowsQry bus → Reports race width lines bus stopped before after result
-reports race width bus lines b new stopped before after result starts same keeps told qry =
-    let is = starts.started qry in
+    → Starts width bus b → stopped ≡ new.bus → KeepsBank b new → ReportsLines race lines b new before after result
+    → Reports race width lines bus stopped before after result
+reports race width bus lines b new stopped before after result starts same keeps told =
     subst (λ (x : BusState). Reports race width lines bus x before after result) (sym same)
-    (reports_as race width bus lines b new before after result is keeps (told (opening_array b) (can_run width bus b is starts.built starts.locks)))
+    (reports_as race width bus lines b new before after result starts keeps told)
+
+runnable : (width : ℕ) (bus : BusState) (b : BankState) → Starts width bus b → IsRunnable width bus.lanes
+runnable width bus b starts = record {
+  built = starts.built;
+  locks = record { found = b.found; is_found = starts.is_found; locks = starts.locks };
+}
 
 pub ends_run : (race : Bool) (width : ℕ) (bus : BusState) (b : BankState) (before after : SinkState) (result : Result Ran RunError) → Starts width bus b → EndsLines race before after result
     → EndsRun race width bus.lanes before after result
-ends_run race width bus b before after (Ok ran) starts ends = (starts.built, record { found = b.found; is_found = starts.is_found; locks = starts.locks })
+ends_run race width bus b before after (Ok ran) starts ends = runnable width bus b starts
 ends_run race width bus b before after (Err (Probe error)) starts ends = absurd ends
 ends_run race width bus b before after (Err NotBuilt) starts ends = absurd ends
-ends_run race width bus b before after (Err Memory) starts ends = (starts.built, record { found = b.found; is_found = starts.is_found; locks = starts.locks }, ends.0, ends.1)
-ends_run race width bus b before after (Err (Put Fault)) starts ends = (starts.built, record { found = b.found; is_found = starts.is_found; locks = starts.locks }, ends)
-ends_run race width bus b before after (Err (Put NoMemory)) starts ends = (starts.built, record { found = b.found; is_found = starts.is_found; locks = starts.locks })
+ends_run race width bus b before after (Err Memory) starts ends = (runnable width bus b starts, ends.0, ends.1)
+ends_run race width bus b before after (Err (Put Fault)) starts ends = (runnable width bus b starts, ends)
+ends_run race width bus b before after (Err (Put NoMemory)) starts ends = runnable width bus b starts
 
 -- a bank that wasn't started: nothing is put
 pub refuses_run : (race : Bool) (width : ℕ) (chips : List ChipState) (before : SinkState) (error : RunError) → Refuses width chips error
     → EndsRun race width chips before before (Err error)
-refuses_run race width chips before (Probe error) why = (why.0, why.1, why.2, refl)
+refuses_run race width chips before (Probe error) why = (why, refl)
 refuses_run race width chips before NotBuilt why = (why, refl)
 refuses_run race width chips before Memory why = absurd why
 refuses_run race width chips before (Put error) why = absurd why
@@ -279,7 +286,7 @@ keeps_lanes bus after width b new starts keeps same =
     subst (λ (x : BusState). KeepsLanes bus x) (sym same) (keeps_then bus b.bus new.bus starts.kept keeps.lanes)
 
 -- what starting leaves of it
-pub starts_so : (width : ℕ) (bus : BusState) (b : BankState) (loaded : IsJustLoaded width bus) → AllLanes IsChip bus → AllLanes ShowsQry bus
+pub starts_so : (width : ℕ) (bus : BusState) (b : BankState) (loaded : IsJustLoaded width bus) → AllLanes IsChip bus → AllLanes HasLetters bus
     → IsFoundOn width bus.lanes b.found → (b.halted ≡ None) × (b.erase ≡ None) × (b.after ≡ 0)
     → EachLane Resets bus b.bus → Counted 0 524 bus b.bus → ((g : Geometry) → CanStart width g bus → Stands b (opening_array b)) → IsStarted width bus b
 starts_so width bus b loaded ranges qry found fresh resets counted stands = record {
@@ -324,19 +331,22 @@ fits_file bytes loaded after is room same keeps =
     ∙ ap (λ (w : ℕ). length (file_of w (bus_of after).lanes)) (sym same))
 
 pub image_reports : (race : Bool) (lines : List Line) (loaded after : Loaded) (was now : SinkState) (ran : Ran) (result : Result Ran RunError) (file : List ℕ)
-    → IsLoaded loaded → loaded_width after ≡ loaded_width loaded → KeepsLanes (bus_of loaded) (bus_of after) → result ≡ Ok ran
+    → IsLoaded loaded → loaded_width after ≡ loaded_width loaded → result ≡ Ok ran
     → Reports race (loaded_width loaded) lines (bus_of loaded) (bus_of after) was now result
     → file ≡ file_of (loaded_width after) (bus_of after).lanes → Stores file (loaded_width after) (bus_of after).lanes
     → RunsImage race (loaded_width loaded) lines (bus_of loaded) was now ran file
-image_reports race lines loaded after was now ran result file is same keeps ok told spelled stores =
+image_reports race lines loaded after was now ran result file is same ok told spelled stores =
     let old = bus_of loaded in
     let new = bus_of after in
     let some = some_lane (loaded_width loaded) (device_of is.file) old.lanes is.bank in
-    let runs = subst (λ (r : Result Ran RunError). Reports race (loaded_width loaded) lines old new was now r) ok told in
+    let runs : RunsScript race (loaded_width loaded) lines old new was now ran =
+    subst (λ (r : Result Ran RunError). Reports race (loaded_width loaded) lines old new was now r) ok told in
     record {
       new = new;
       runs = runs;
       spelled = spelled ∙ ap (λ (n : ℕ). file_of n new.lanes) same;
-      image = subst (λ (n : ℕ). IsImageOf file n (map powered new.lanes)) same
-          (stores (record { storable = still_storable old new some keeps is.storable; agree = still_agree old new some runs.runs.count runs.runs.lasts is.agree }));
+      image = λ agree.
+          subst (λ (n : ℕ). IsImageOf file n (map powered new.lanes)) same
+          (stores (record { storable = still_storable old new some runs.runs.kept is.storable; agree = agree }));
+      agree = λ qry. still_agree old new some runs.runs.kept.count (runs.runs.legal qry).lasts is.agree;
     }

@@ -1,4 +1,5 @@
 pub mod Built
+pub mod Causes
 pub mod Running
 pub mod Scripts
 pub mod Started

@@ -1,12 +1,15 @@
 -- What running a script on a bank that was just loaded makes.
 use Rattle.std.specs.Prelude.{◌≡◌, ◌≢◌, ◌<◌, ◌⊎◌, ℕ, List, length, map, take, Result, Ok, Err, slice_index, Bool, true, false, Some, None}
+use Rattle.nor_cell.specs.Between.{IsQuiet}
 use Rattle.nor_cell.specs.Chip.{ChipState}
 use Rattle.nor_cell.specs.Power.{powered, locks_after}
 use Rattle.nor_cell.specs.declared.device.Device.{Device}
-use Rattle.nor_bus.specs.Bus.{BusState, IsBank, lane, lanes_of, bank_byte, bank_bytes, bank_size}
+use Rattle.nor_bus.specs.Bus.{BusState, IsBank, lane, bank_byte, bank_bytes, bank_size}
+use Rattle.nor_bus.specs.Cycles.{KeepsLanes}
 use Rattle.nor_bus.specs.Driven.{AllLanes, EachLane}
 use Rattle.nor_query.specs.Derived.{locks_of}
 use Rattle.nor_probe.specs.Probed.{refusal, IsFoundOn}
+use Rattle.nor_probe.specs.declared.error.ProbeError.{ProbeError}
 use Rattle.nor_probe.specs.declared.error.ProbeError.TheVariants.{Off as LostPower}
 use Rattle.nor_probe.specs.WellWired.{HasQry}
 use Rattle.nor_probe.specs.declared.probing.Found.{Found}
@@ -14,6 +17,7 @@ use Rattle.nor_array.specs.Array.{ArrayState, opening}
 use Rattle.nor_array.specs.After.{after_all}
 use Rattle.nor_array.specs.Legal.{Legal}
 use Rattle.nor_array.specs.declared.entry.Entry.{Entry}
+use Rattle.nor_array.specs.Entries.{has_halt}
 use Rattle.nor_script.specs.Answering.{Answers}
 use Rattle.nor_script.specs.Report.{report_text}
 use Rattle.nor_script.specs.declared.line.Line.{Line}
@@ -21,7 +25,7 @@ use Rattle.nor_io.specs.Files.{SinkState, Rose, Appends, AppendsPart}
 use Rattle.nor_io.specs.declared.sink.SinkError.TheVariants.{Fault, NoMemory}
 use Rattle.nor_bank.specs.Calls.{facts_of}
 use Rattle.nor_bank.specs.Programs.{Lasts}
-use Rattle.nor_bank.specs.Stands.{IsQuiet, constants_of}
+use Rattle.nor_bank.specs.Stands.{Stands, constants_of}
 use Rattle.nor_bank.specs.State.{BankState}
 use Rattle.nor_image.specs.Image.{IsImageOf, device_of}
 use Rattle.nor_image.specs.Loaded.{bus_of, loaded_width, IsFreshBus}
@@ -30,70 +34,109 @@ use Rattle.nor_image.specs.declared.loaded.Loaded.{Loaded}
 use Rattle.nor_run.specs.declared.error.RunError.{RunError}
 use Rattle.nor_run.specs.declared.error.RunError.TheVariants.{Probe, NotBuilt, NoMemory as Memory, Put}
 use Rattle.nor_run.specs.Built.{is_built_bank}
-use Rattle.nor_run.specs.Running.{has_halt, counters_of, IsCount, Untouched}
+use Rattle.nor_run.specs.Running.{counters_of, IsCount, Untouched}
 use Rattle.nor_run.specs.declared.lines.Ran.{Ran}
 
 -- a bank of which this was found, before its first call
 abbrev pub started : Found → BusState → BankState
 started found bus = record { bus = bus; found = found; halted = None; erase = None; after = 0 }
 
+abbrev pub HasLetters : ChipState → Type 0
+HasLetters s = HasQry s.part.table
+
 -- the array that it opens with: the cells' bytes and the chips' locks
 abbrev pub opening_of : Found → BusState → ArrayState
-opening_of found bus = opening (constants_of found bus.lanes (lane bus 0).locks) (bank_bytes found.geometry.device bus.lanes 0 (bank_size bus.lanes))
+opening_of found bus =
+    opening (constants_of found bus.lanes (lane bus 0).locks)
+    (bank_bytes found.geometry.device bus.lanes 0 (bank_size bus.lanes))
 
 -- The cells are the bytes of the array.
 pub record HoldsBytes (found : Found) (bus : BusState) (a : ArrayState) : Type 0 where
   pub size : length a.bytes ≡ bank_size bus.lanes
   pub bytes : (p : ℕ) → p < length a.bytes → slice_index a.bytes p ≡ bank_byte found.geometry.device bus.lanes p
 
--- A history that is legal from the opening array and answers the lines led the bus from old to new. Of each chip all is as it
--- was but the cells, which are the array's bytes after the history.
-pub record RunsLegally (race : Bool) (width : ℕ) (lines : List Line) (old new : BusState) (found : Found) (es : List Entry) : Type 0 where
-  pub is_found : IsFoundOn width old.lanes found
+-- A bank on this bus, of which this was found, stands for the array.
+pub record StandsOn (found : Found) (bus : BusState) (a : ArrayState) : Type 0 where
+  pub bank : BankState
+  pub on : bank.bus ≡ bus
+  pub is : bank.found ≡ found
+  pub stands : Stands bank a
+
+-- ---- what was run
+
+-- The entries are a legal history from the opening array, and led the bus from old to new, which stands for the array
+-- after them. Of each chip all is as it was but the cells, which are the bytes of that array.
+pub record RunsLegally (old new : BusState) (found : Found) (es : List Entry) : Type 0 where
   pub legal : Legal (facts_of (started found old)) (opening_of found old) es
-  pub answers : Answers race lines es
-  pub count : lanes_of new ≡ lanes_of old
   pub lasts : EachLane Lasts old new
+  pub stands : StandsOn found new (after_all (opening_of found old) es)
   pub holds : HoldsBytes found new (after_all (opening_of found old) es)
 
--- All lines were run so, and the report of the history was put.
-pub record RunsScript (race : Bool) (width : ℕ) (lines : List Line) (old new : BusState) (before after : SinkState) (ran : Ran) : Type 0 where
+-- The entries answer the lines, and each chip stays what it is. Where the chips' tables begin with `QRY`, the entries
+-- are a legal history.
+pub record IsRunOf (race : Bool) (width : ℕ) (lines : List Line) (old new : BusState) (es : List Entry) : Type 0 where
   pub found : Found
+  pub is_found : IsFoundOn width old.lanes found
+  pub answers : Answers race lines es
+  pub kept : KeepsLanes old new
+  pub legal : AllLanes HasLetters old → RunsLegally old new found es
+
+-- All lines were run so, and the report of the entries was put.
+pub record RunsScript (race : Bool) (width : ℕ) (lines : List Line) (old new : BusState)
+    (before after : SinkState) (ran : Ran) : Type 0 where
   pub history : List Entry
-  pub runs : RunsLegally race width lines old new found history
+  pub runs : IsRunOf race width lines old new history
   pub text : Appends before.taken (report_text history (counters_of new.lanes)) after.taken
   pub entries : ran.entries ≡ length history
   pub halted : ran.halted ≡ has_halt history
 
--- A first part of the report of such a history was put, whose lines are the first of the script.
-pub record RunsPartly (race : Bool) (width : ℕ) (lines : List Line) (old new : BusState) (before after : SinkState) : Type 0 where
-  pub found : Found
+-- The first lines of the script were run, or in a race all, and of the report of their entries a first part was put.
+pub record RunsPartly (race : Bool) (width : ℕ) (lines : List Line) (old new : BusState)
+    (before after : SinkState) : Type 0 where
   pub history : List Entry
   pub count : ℕ
   pub all : IsCount race lines count
-  pub runs : RunsLegally race width (take count lines) old new found history
+  pub runs : IsRunOf race width (take count lines) old new history
   pub text : AppendsPart before.taken (report_text history (counters_of new.lanes)) after.taken
 
 -- ---- how it ends
 
 -- what was found of the bank offers locks, or not
-pub record HasLocks (width : ℕ) (chips : List ChipState) (offers : Bool) : Type 0 where
+pub record FindsLocks (width : ℕ) (chips : List ChipState) (offers : Bool) : Type 0 where
   pub found : Found
   pub is_found : IsFoundOn width chips found
   pub locks : locks_of found.query.extended ≡ offers
 
--- Why a bank of these chips is run, or not: running isn't built for its chips, probing refuses it, its table offers locks, or
--- a race wants memory.
+-- running is built for the chips, and the table that was found offers no locks
+pub record IsRunnable (width : ℕ) (chips : List ChipState) : Type 0 where
+  pub built : is_built_bank chips ≡ true
+  pub locks : FindsLocks width chips false
+
+-- probing refuses the chips, for which running is built
+pub record IsUnfound (width : ℕ) (chips : List ChipState) (error : ProbeError) : Type 0 where
+  pub built : is_built_bank chips ≡ true
+  pub refused : refusal width chips ≡ Some error
+  pub powered : error ≢ LostPower
+
+-- running isn't built for the chips, or their table offers locks
+abbrev pub IsUnbuilt : (width : ℕ) → List ChipState → Type 0
+IsUnbuilt width chips = (is_built_bank chips ≡ false) ⊎ ((is_built_bank chips ≡ true) × FindsLocks width chips true)
+
+-- Why a bank of these chips is run, or not: running isn't built for its chips, probing refuses it, its table offers
+-- locks, or a race wants memory.
 abbrev pub EndsRun : (race : Bool) → ℕ → List ChipState → (before after : SinkState) → Result Ran RunError → Type 0
-EndsRun race width chips before after (Ok ran) = (is_built_bank chips ≡ true) × HasLocks width chips false
-EndsRun race width chips before after (Err (Probe error)) = (is_built_bank chips ≡ true) × (refusal width chips ≡ Some error) × (error ≢ LostPower) × Untouched before after
-EndsRun race width chips before after (Err NotBuilt) = ((is_built_bank chips ≡ false) ⊎ ((is_built_bank chips ≡ true) × HasLocks width chips true)) × Untouched before after
-EndsRun race width chips before after (Err Memory) = (is_built_bank chips ≡ true) × HasLocks width chips false × (race ≡ true) × Untouched before after
-EndsRun race width chips before after (Err (Put Fault)) = (is_built_bank chips ≡ true) × HasLocks width chips false × Rose before.faults after.faults
-EndsRun race width chips before after (Err (Put NoMemory)) = (is_built_bank chips ≡ true) × HasLocks width chips false
+EndsRun race width chips before after (Ok ran) = IsRunnable width chips
+EndsRun race width chips before after (Err (Probe error)) = IsUnfound width chips error × Untouched before after
+EndsRun race width chips before after (Err NotBuilt) = IsUnbuilt width chips × Untouched before after
+EndsRun race width chips before after (Err Memory) =
+    IsRunnable width chips × (race ≡ true) × Untouched before after
+EndsRun race width chips before after (Err (Put Fault)) =
+    IsRunnable width chips × Rose before.faults after.faults
+EndsRun race width chips before after (Err (Put NoMemory)) = IsRunnable width chips
 
 -- What was put of a run, whole or in part.
-abbrev pub Reports : (race : Bool) → ℕ → List Line → (old new : BusState) → (before after : SinkState) → Result Ran RunError → Type 0
+abbrev pub Reports : (race : Bool) → ℕ → List Line → (old new : BusState) → (before after : SinkState)
+    → Result Ran RunError → Type 0
 Reports race width lines old new before after (Ok ran) = RunsScript race width lines old new before after ran
 Reports race width lines old new before after (Err (Probe error)) = Unit {0}
 Reports race width lines old new before after (Err NotBuilt) = Unit {0}
@@ -115,9 +158,6 @@ pub record IsJustLoaded (width : ℕ) (bus : BusState) : Type 0 where
   pub agree : AgreeOnLocks bus.lanes
   pub chips : AllLanes IsJustPowered bus
 
-abbrev pub ShowsQry : ChipState → Type 0
-ShowsQry s = HasQry s.part.table
-
 -- The bank was just loaded from a file.
 pub record IsLoaded (loaded : Loaded) : Type 0 where
   pub file : List ℕ
@@ -131,18 +171,23 @@ pub record IsLoaded (loaded : Loaded) : Type 0 where
 abbrev pub HasRoom : List ℕ → Loaded → Type 0
 HasRoom bytes loaded = length bytes ≡ length (file_of (loaded_width loaded) (bus_of loaded).lanes)
 
--- A script was run on the bank of a file, and these are now the bytes of the file to save: that of version 2 of the bank as it
--- then is.
-pub record RunsImage (race : Bool) (width : ℕ) (lines : List Line) (old : BusState) (before after : SinkState) (ran : Ran) (file : List ℕ) : Type 0 where
+-- A script was run on the bank of a file, and these are now the bytes of the file to save: that of version 2 of the
+-- bank as it then is, for which the file stands where the lanes agree on their locks. They do where the tables begin
+-- with `QRY`.
+pub record RunsImage (race : Bool) (width : ℕ) (lines : List Line) (old : BusState)
+    (before after : SinkState) (ran : Ran) (file : List ℕ) : Type 0 where
   pub new : BusState
   pub runs : RunsScript race width lines old new before after ran
   pub spelled : file ≡ file_of width new.lanes
-  pub image : IsImageOf file width (map powered new.lanes)
+  pub image : AgreeOnLocks new.lanes → IsImageOf file width (map powered new.lanes)
+  pub agree : AllLanes HasLetters old → AgreeOnLocks new.lanes
 
 -- the same, or a part of it
-abbrev pub ReportsImage : (race : Bool) → ℕ → List Line → BusState → (before after : SinkState) → List ℕ → Result Ran RunError → Type 0
+abbrev pub ReportsImage : (race : Bool) → ℕ → List Line → BusState → (before after : SinkState) → List ℕ
+    → Result Ran RunError → Type 0
 ReportsImage race width lines old before after file (Ok ran) = RunsImage race width lines old before after ran file
 ReportsImage race width lines old before after file (Err (Probe error)) = Unit {0}
 ReportsImage race width lines old before after file (Err NotBuilt) = Unit {0}
 ReportsImage race width lines old before after file (Err Memory) = Unit {0}
-ReportsImage race width lines old before after file (Err (Put error)) = (new : BusState) × RunsPartly race width lines old new before after
+ReportsImage race width lines old before after file (Err (Put error)) =
+    (new : BusState) × RunsPartly race width lines old new before after

@@ -1,17 +1,16 @@
 -- A bank that was started for a script.
-use Rattle.std.specs.Prelude.{◌≡◌, ◌≢◌, ◌⊎◌, ℕ, List, true, false, Some, None, Result, Ok, Err}
+use Rattle.std.specs.Prelude.{◌≡◌, ℕ, List, true, false, None, Result, Ok, Err}
 use Rattle.nor_cell.specs.Chip.{ChipState}
 use Rattle.nor_bus.specs.Bus.{BusState}
 use Rattle.nor_bus.specs.Cycles.{KeepsLanes}
 use Rattle.nor_bus.specs.Driven.{AllLanes}
 use Rattle.nor_io.specs.declared.sink.SinkError.{SinkError}
-use Rattle.nor_probe.specs.Probed.{refusal, IsFoundOn}
-use Rattle.nor_probe.specs.declared.error.ProbeError.TheVariants.{Off as LostPower}
+use Rattle.nor_probe.specs.Probed.{IsFoundOn}
 use Rattle.nor_query.specs.Derived.{locks_of}
 use Rattle.nor_bank.specs.Stands.{Stands, opening_array}
 use Rattle.nor_bank.specs.State.{BankState}
 use Rattle.nor_run.specs.Built.{is_built_bank}
-use Rattle.nor_run.specs.Scripts.{HasLocks, ShowsQry}
+use Rattle.nor_run.specs.Scripts.{HasLetters, IsUnfound, IsUnbuilt}
 use Rattle.nor_run.specs.declared.error.RunError.{RunError}
 use Rattle.nor_run.specs.declared.error.RunError.TheVariants.{Probe, NotBuilt, NoMemory as Memory, Put}
 use Rattle.nor_run.specs.declared.lines.Ran.{Ran}
@@ -36,11 +35,11 @@ pub record Starts (width : ℕ) (bus : BusState) (b : BankState) : Type 0 where
   pub locks : locks_of b.found.query.extended ≡ false
   pub closed : b.erase ≡ None
   pub kept : KeepsLanes bus b.bus
-  pub started : AllLanes ShowsQry bus → IsStarted width bus b
+  pub started : AllLanes HasLetters bus → IsStarted width bus b
 
 -- Why it wasn't.
 abbrev pub Refuses : ℕ → List ChipState → RunError → Type 0
-Refuses width chips (Probe error) = (is_built_bank chips ≡ true) × (refusal width chips ≡ Some error) × (error ≢ LostPower)
-Refuses width chips NotBuilt = (is_built_bank chips ≡ false) ⊎ ((is_built_bank chips ≡ true) × HasLocks width chips true)
+Refuses width chips (Probe error) = IsUnfound width chips error
+Refuses width chips NotBuilt = IsUnbuilt width chips
 Refuses width chips Memory = ⊥
 Refuses width chips (Put error) = ⊥

@@ -2,14 +2,12 @@
 ghost use Rattle.std.specs.Prelude.{◌≡◌, ◌≤◌, ℕ, List, Bool, Option, true, false, IfOk, IfErr};
 ghost use Rattle.nor_io.specs.Files.{SinkState};
 ghost use Rattle.nor_bus.specs.Cycles.{KeepsLanes};
-ghost use Rattle.nor_bus.specs.Driven.{AllLanes};
-ghost use Rattle.nor_array.specs.Array.{ArrayState};
 ghost use Rattle.nor_bank.specs.State.{BankState};
 ghost use Rattle.nor_script.specs.declared.line.Line.{Line as LineOf};
 ghost use Rattle.nor_run.specs.Built.{are_built};
 ghost use Rattle.nor_run.specs.Running.{RunsLines, EndsLines, ReportsLines};
 ghost use Rattle.nor_run.specs.Started.{of_put, Starts, Refuses};
-ghost use Rattle.nor_run.specs.Scripts.{IsJustLoaded, ShowsQry, EndsRun, Reports};
+ghost use Rattle.nor_run.specs.Scripts.{IsJustLoaded, EndsRun, Reports};
 
 use crate::built::is_built_for;
 use crate::counters::put_counters;
@@ -65,10 +63,10 @@ pub fn put_end<W: BusWord, C: Chip + Drop, K: Sink>(
     ran: Result<Ran, RunError>,
     out: &mut K,
 ) -> Result<Ran, RunError>
-    ensures reports { (race : Bool) (lines : List LineOf) (old new : BankState) (a : ArrayState) (before : SinkState)
+    ensures reports { (race : Bool) (lines : List LineOf) (old new : BankState) (before : SinkState)
         → new.bus ≡ bank.now
-        → RunsLines race lines old new a before (K.state out.old) ran
-        → ReportsLines race lines old new a before (K.state out.new) result }
+        → RunsLines race lines old new before (K.state out.old) ran
+        → ReportsLines race lines old new before (K.state out.new) result }
     ensures ends { (race : Bool) (before : SinkState)
         → before.faults ≤ (K.state out.old).faults
         → EndsLines race before (K.state out.old) ran
@@ -93,8 +91,7 @@ pub fn run_bank<W: BusWord, C: Chip + Drop, K: Sink>(
     requires built { are_built lines.now ≡ true }
     requires loaded { IsJustLoaded W.WIDTH bank }
     ensures ends { EndsRun false W.WIDTH bank.lanes (K.state out.old) (K.state out.new) result.1 }
-    ensures reports { AllLanes ShowsQry bank
-        → Reports false W.WIDTH lines.now bank result.0
+    ensures reports { Reports false W.WIDTH lines.now bank result.0
         (K.state out.old) (K.state out.new) result.1 }
     ensures lanes { KeepsLanes bank result.0 }
     ensures later { (K.state out.old).faults ≤ (K.state out.new).faults }

@@ -6,7 +6,6 @@ ghost use Rattle.nor_bus.specs.Driven.{AllLanes};
 ghost use Rattle.nor_image.specs.Loaded.{bus_of};
 ghost use Rattle.nor_run.specs.Built.{is_built_word, are_built, is_faultless, is_built_bank};
 
-use crate::counters::lanes_of;
 use nor_array::Op;
 use nor_bus::SimBank;
 use nor_cell::Chip;
@@ -51,7 +50,7 @@ pub fn is_built_for<W: BusWord, C: Chip + Drop>(bank: &SimBank<W, C>) -> bool
     ensures ranges { AllLanes IsChip bank.now }
 {
     let mut sound = true;
-    for lane in 0..lanes_of(bank) {
+    for lane in 0..bank.chips().len() as u8 {
         sound = both(sound, is_faultless(bank.chip(lane)));
     }
     sound

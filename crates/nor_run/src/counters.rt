@@ -1,6 +1,5 @@
 //! The chips of a simulated bank.
-ghost use Rattle.std.specs.Prelude.{◌≡◌, ◌<◌, ◌≤◌};
-ghost use Rattle.nor_bus.specs.Bus.{lanes_of};
+ghost use Rattle.std.specs.Prelude.{◌≡◌, ◌≤◌};
 ghost use Rattle.nor_io.specs.Puts.{PutsText};
 ghost use Rattle.nor_script.specs.Report.{totals_text};
 ghost use Rattle.nor_run.specs.Running.{counters_of};
@@ -10,15 +9,6 @@ use nor_cell::Chip;
 use nor_io::{Sink, SinkError};
 use nor_script::put_totals;
 use nor_word::BusWord;
-
-/// How many lanes the bank has.
-pub fn lanes_of<W: BusWord, C: Chip + Drop>(bank: &SimBank<W, C>) -> u8
-    ensures value { result ≡ lanes_of bank.now }
-    ensures some { 0 < result }
-    ensures few { result ≤ 4 }
-{
-    bank.chips().len() as u8
-}
 
 // How often an erase was suspended on a chip, and how many erases there were.
 fn counters<C: Chip>(chip: &C) -> (u32, u32)
@@ -39,7 +29,7 @@ pub fn put_counters<W: BusWord, C: Chip + Drop, K: Sink>(
     ensures later { (K.state out.old).faults ≤ (K.state out.new).faults }
 {
     let mut all = [(0u32, 0u32); 4];
-    let lanes = lanes_of(bank);
+    let lanes = bank.chips().len() as u8;
     for lane in 0..lanes {
         all[usize::from(lane)] = counters(bank.chip(lane));
     }

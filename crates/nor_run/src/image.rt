@@ -1,10 +1,11 @@
 //! A script on the bank of a file.
-ghost use Rattle.std.specs.Prelude.{◌≡◌, ◌≤◌, true, false, IsErr};
+ghost use Rattle.std.specs.Prelude.{◌≡◌, ◌≤◌, true, false, IsErr, IfOk};
 ghost use Rattle.nor_bus.specs.Cycles.{KeepsLanes};
 ghost use Rattle.nor_bus.specs.Driven.{AllLanes};
 ghost use Rattle.nor_image.specs.Loaded.{bus_of, loaded_width};
 ghost use Rattle.nor_run.specs.Built.{are_built};
-ghost use Rattle.nor_run.specs.Scripts.{IsJustLoaded, IsLoaded, HasRoom, ShowsQry, EndsRun, Reports, ReportsImage};
+ghost use Rattle.nor_run.specs.Causes.{MayHalt};
+ghost use Rattle.nor_run.specs.Scripts.{IsJustLoaded, IsLoaded, HasRoom, HasLetters, EndsRun, Reports, ReportsImage};
 
 use crate::bank::run_bank;
 use crate::{Ran, RunError};
@@ -64,9 +65,8 @@ fn run_loaded<K: Sink>(
     ensures width { loaded_width result.0 ≡ loaded_width loaded }
     ensures ends { EndsRun false (loaded_width loaded) (bus_of loaded).lanes
         (K.state out.old) (K.state out.new) result.1 }
-    ensures reports { AllLanes ShowsQry (bus_of loaded)
-        → Reports false (loaded_width loaded) lines.now (bus_of loaded) (bus_of result.0)
-        (K.state out.old) (K.state out.new) result.1 }
+    ensures reports { Reports false (loaded_width loaded) lines.now
+        (bus_of loaded) (bus_of result.0) (K.state out.old) (K.state out.new) result.1 }
     ensures lanes { KeepsLanes (bus_of loaded) (bus_of result.0) }
     ensures later { (K.state out.old).faults ≤ (K.state out.new).faults }
 {
@@ -82,10 +82,12 @@ fn run_loaded<K: Sink>(
 /// running is built for. Both put nothing. `Put` comes only from the sink. After an error the bytes are
 /// as they were. It takes no memory, and never answers `NoMemory`.
 ///
-/// Where the chips' tables begin with `QRY`, the report is that of a legal history of the plain array
-/// that opens with the bank's bytes and locks, the history answers the lines, and the file stands for a
-/// bank that is as before, but for its cells, which are the array's bytes; after `Put` the sink has taken a first
-/// part of such a report.
+/// The report is that of entries that answer the lines, and of the chips' counters, and the file is that of
+/// the bank, whose chips stay what they are; after `Put` the sink has taken a first part of such a report, of
+/// entries that answer the first lines. Where the chips' tables begin with `QRY`, the entries are a legal
+/// history of the plain array that opens with the bank's bytes and locks, and the file stands for a bank that
+/// is as before, but for its cells, which are the array's bytes after it; the bank halts only where a line
+/// arms a cut or a chip never ends its work.
 pub fn run_image<K: Sink>(
     loaded: Loaded,
     file: &mut [u8],
@@ -97,9 +99,10 @@ pub fn run_image<K: Sink>(
     requires room { HasRoom file.old loaded }
     ensures ends { EndsRun false (loaded_width loaded) (bus_of loaded).lanes
         (K.state out.old) (K.state out.new) result }
-    ensures reports { AllLanes ShowsQry (bus_of loaded)
-        → ReportsImage false (loaded_width loaded) lines.now (bus_of loaded)
+    ensures reports { ReportsImage false (loaded_width loaded) lines.now (bus_of loaded)
         (K.state out.old) (K.state out.new) file.new result }
+    ensures caused { AllLanes HasLetters (bus_of loaded)
+        → IfOk result (λ ran. ran.halted ≡ true → MayHalt lines.now (bus_of loaded).lanes) }
     ensures same { IsErr result → file.new ≡ file.old }
     ensures later { (K.state out.old).faults ≤ (K.state out.new).faults }
 {

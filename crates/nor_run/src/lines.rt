@@ -1,12 +1,12 @@
 //! Running the lines of a script.
 ghost use Rattle.std.specs.Prelude.{◌≡◌, ◌≤◌, ◌<◌, ◌+◌, ◌^◌, ◌||◌, ℕ, true, false, length, IfOk, IfErr, Err};
-ghost use Rattle.nor_array.specs.Array.{ArrayState};
+ghost use Rattle.nor_array.specs.Entries.{is_halt};
 ghost use Rattle.nor_io.specs.Files.{Rose};
 ghost use Rattle.nor_io.specs.declared.sink.SinkError.TheVariants.{Fault};
 ghost use Rattle.nor_script.specs.Report.{entry_line};
 ghost use Rattle.nor_run.specs.Built.{is_built_call, is_built_word, are_built};
-ghost use Rattle.nor_bank.specs.Work.{CanCall, KeepsBank};
-ghost use Rattle.nor_run.specs.Running.{PutsReply, RunsCall, RunsWord, RunsWhole, RunsPart, is_halt};
+ghost use Rattle.nor_bank.specs.Work.{KeepsBank};
+ghost use Rattle.nor_run.specs.Running.{PutsReply, RunsCall, RunsWord, RunsWhole, RunsPart};
 
 use nor_array::{Op, Reply};
 use nor_bank::{Bank, MAX_LEN};
@@ -50,8 +50,7 @@ fn read_into<W: BusWord, B: Bus<W>, K: Sink>(
     out: &mut K,
 ) -> Result<Reply, SinkError>
     requires { length into.old ≡ len }
-    ensures runs { (a : ArrayState) → CanCall bank.old a
-        → RunsCall caller (Op.Read at len) position bank.old bank.new a
+    ensures runs { RunsCall caller (Op.Read at len) position bank.old bank.new
         (K.state out.old) (K.state out.new) result }
     ensures keeps { KeepsBank bank.old bank.new }
     ensures fault { result ≡ Err Fault → Rose (K.state out.old).faults (K.state out.new).faults }
@@ -71,8 +70,7 @@ fn run_read<W: BusWord, B: Bus<W>, K: Sink>(
     position: u64,
     out: &mut K,
 ) -> Result<Reply, SinkError>
-    ensures runs { (a : ArrayState) → CanCall bank.old a
-        → RunsCall caller (Op.Read at len) position bank.old bank.new a
+    ensures runs { RunsCall caller (Op.Read at len) position bank.old bank.new
         (K.state out.old) (K.state out.new) result }
     ensures keeps { KeepsBank bank.old bank.new }
     ensures fault { result ≡ Err Fault → Rose (K.state out.old).faults (K.state out.new).faults }
@@ -103,8 +101,7 @@ fn run_call<W: BusWord, B: Bus<W>, K: Sink>(
     out: &mut K,
 ) -> Result<Reply, SinkError>
     requires { is_built_call op.now ≡ true }
-    ensures runs { (a : ArrayState) → CanCall bank.old a
-        → RunsCall caller op.now position bank.old bank.new a
+    ensures runs { RunsCall caller op.now position bank.old bank.new
         (K.state out.old) (K.state out.new) result }
     ensures keeps { KeepsBank bank.old bank.new }
     ensures fault { result ≡ Err Fault → Rose (K.state out.old).faults (K.state out.new).faults }
@@ -148,8 +145,7 @@ fn run_line<W: BusWord, B: Bus<W>, K: Sink>(
     out: &mut K,
 ) -> Result<Reply, SinkError>
     requires { is_built_word line.now.word ≡ true }
-    ensures runs { (a : ArrayState) → CanCall bank.old a
-        → RunsWord line.now.word line.now.caller position bank.old bank.new a
+    ensures runs { RunsWord line.now.word line.now.caller position bank.old bank.new
         (K.state out.old) (K.state out.new) result }
     ensures keeps { KeepsBank bank.old bank.new }
     ensures fault { result ≡ Err Fault → Rose (K.state out.old).faults (K.state out.new).faults }
@@ -165,19 +161,19 @@ fn run_line<W: BusWord, B: Bus<W>, K: Sink>(
 /// Runs the lines of a script on a bank, one after the other, and puts the entry of each as soon as it
 /// is made. Each line must be built.
 ///
-/// On a bank that can be run the entries are a legal history that answers the lines, and the bank
-/// stands for the array after it. `Fault` and `NoMemory` come only from the sink: the line whose entry
-/// it didn't take whole is the last that was run. No memory is taken.
+/// The entries answer the lines. Where the bank stands for an array, they are a legal history from it, and
+/// the bank stands for the array after it. `Fault` and `NoMemory` come only from the sink: the line whose
+/// entry it didn't take whole is the last that was run. No memory is taken.
 pub fn run_lines<W: BusWord, B: Bus<W>, K: Sink>(
     bank: &mut Bank<W, B>,
     lines: &[Line],
     out: &mut K,
 ) -> Result<Ran, SinkError>
     requires { are_built lines.now ≡ true }
-    ensures ran { IfOk result (λ ran. (a : ArrayState) → CanCall bank.old a
-        → RunsWhole false lines.now bank.old bank.new a (K.state out.old) (K.state out.new) ran) }
-    ensures stopped { IfErr result (λ _. (a : ArrayState) → CanCall bank.old a
-        → RunsPart false lines.now bank.old bank.new a (K.state out.old) (K.state out.new)) }
+    ensures ran { IfOk result (RunsWhole false lines.now bank.old bank.new
+        (K.state out.old) (K.state out.new)) }
+    ensures stopped { IfErr result (λ _. RunsPart false lines.now bank.old bank.new
+        (K.state out.old) (K.state out.new)) }
     ensures keeps { KeepsBank bank.old bank.new }
     ensures fault { result ≡ Err Fault → Rose (K.state out.old).faults (K.state out.new).faults }
     ensures later { (K.state out.old).faults ≤ (K.state out.new).faults }

@@ -5,7 +5,7 @@ ghost use Rattle.nor_cell.specs.Ranges.{are_blocks, is_ascending_below, begin_un
 ghost use Rattle.nor_cell.specs.Wiring.{is_wiring};
 ghost use Rattle.nor_samples.specs.Alike.{IsAlike};
 
-use crate::tables::table;
+use crate::tables::{suspend_table, table, whole_table};
 use nor_amd::Amd;
 use nor_bus::SimBank;
 use nor_cell::{CellParts, Cells, Chip, Device, Geometry, NoMemory, Set, Span, make_cells};
@@ -44,6 +44,18 @@ impl Made for Amd {
         Amd::new(cells)
     }
 }
+
+/// How the chips of a bank suspend an erase.
+#[derive(Clone, Copy)]
+pub struct Suspending {
+    /// After how many reads.
+    pub pace: u8,
+    /// Whether they program while an erase is held.
+    pub programs: bool,
+}
+
+// After how many reads an erase is suspended where nothing else is asked for.
+const PACE: u8 = 1;
 
 /// What the chips of a bank are. Their cells are ones.
 #[derive(Clone, Copy)]
@@ -89,7 +101,14 @@ fn eight_blocks(alloc: Global) -> Result<Vec<Span>, AllocError>
     Ok(blocks)
 }
 
-fn cells_of(alloc: Global, setup: Setup, set: Set, lane: u8) -> Result<Cells, NoMemory>
+fn cells_of(
+    alloc: Global,
+    setup: Setup,
+    table: [u8; 512],
+    pace: u8,
+    lane: u8,
+) -> Result<Cells, NoMemory>
+    requires { pace ≤ 16 }
     ensures device { IfOk result (λ cells. cells.device ≡ setup.geometry.device) }
     ensures size { IfOk result (λ cells. length cells.bytes.items ≡ 8192) }
 {
@@ -98,13 +117,13 @@ fn cells_of(alloc: Global, setup: Setup, set: Set, lane: u8) -> Result<Cells, No
         alloc,
         CellParts {
             device,
-            table: table(device, set),
+            table,
             bytes: vec![in alloc; 0xFF; CHIP_SIZE]?,
             weak: weak_places(alloc, device, setup.weak_lane == Some(lane))?,
             stuck: setup.stuck_lane == Some(lane),
             pace_program: setup.pace,
             pace_erase: 3,
-            pace_suspend: 1,
+            pace_suspend: pace,
             suspends: 0,
             erases: 0,
             blocks: eight_blocks(alloc)?,
@@ -114,25 +133,66 @@ fn cells_of(alloc: Global, setup: Setup, set: Set, lane: u8) -> Result<Cells, No
     Ok(cells)
 }
 
-fn make_chips<C: Made>(alloc: Global, setup: Setup) -> Result<Vec<C>, NoMemory>
+fn make_chips<C: Made>(
+    alloc: Global,
+    setup: Setup,
+    table: [u8; 512],
+    pace: u8,
+) -> Result<Vec<C>, NoMemory>
+    requires { pace ≤ 16 }
     ensures count { IfOk result (λ chips. length (map C.state chips.items) ≡ setup.geometry.lanes) }
     ensures alike { IfOk result (λ chips. All (IsAlike setup.geometry.device) (map C.state chips.items)) }
 {
     let mut chips = Vec::new(alloc);
     for lane in 0..setup.geometry.lanes {
-        chips.push(C::made(cells_of(alloc, setup, C::SET, lane)?))?;
+        chips.push(C::made(cells_of(alloc, setup, table, pace, lane)?))?;
     }
     Ok(chips)
 }
 
-/// A bank of such chips, just powered on.
 #[tactic(auto, using(crate::proofs::Wired::are_bank))]
+fn make_bank_of<W: BusWord, C: Made>(
+    alloc: Global,
+    setup: Setup,
+    table: [u8; 512],
+    pace: u8,
+) -> Result<SimBank<W, C>, NoMemory>
+    requires wiring { IsTrue (is_wiring W.WIDTH setup.geometry.lanes setup.geometry.device) }
+    requires pace { pace ≤ 16 }
+{
+    let chips = make_chips::<C>(alloc, setup, table, pace)?;
+    Ok(SimBank::new(setup.geometry.device, chips))
+}
+
+/// A bank of such chips, just powered on. They suspend an erase after one read, for reads alone.
 pub fn make_bank<W: BusWord, C: Made>(
     alloc: Global,
     setup: Setup,
 ) -> Result<SimBank<W, C>, NoMemory>
     requires { IsTrue (is_wiring W.WIDTH setup.geometry.lanes setup.geometry.device) }
 {
-    let chips = make_chips::<C>(alloc, setup)?;
-    Ok(SimBank::new(setup.geometry.device, chips))
+    make_bank_of::<W, C>(alloc, setup, table(setup.geometry.device, C::SET), PACE)
+}
+
+/// The same of chips that suspend an erase so.
+pub fn make_suspending_bank<W: BusWord, C: Made>(
+    alloc: Global,
+    setup: Setup,
+    suspending: Suspending,
+) -> Result<SimBank<W, C>, NoMemory>
+    requires wiring { IsTrue (is_wiring W.WIDTH setup.geometry.lanes setup.geometry.device) }
+    requires pace { suspending.pace ≤ 16 }
+{
+    let table = suspend_table(setup.geometry.device, C::SET, suspending.programs);
+    make_bank_of::<W, C>(alloc, setup, table, suspending.pace)
+}
+
+/// The same of chips that offer all that their set can. Those of set 0001 have every block locked.
+pub fn make_whole_bank<W: BusWord, C: Made>(
+    alloc: Global,
+    setup: Setup,
+) -> Result<SimBank<W, C>, NoMemory>
+    requires { IsTrue (is_wiring W.WIDTH setup.geometry.lanes setup.geometry.device) }
+{
+    make_bank_of::<W, C>(alloc, setup, whole_table(C::SET), PACE)
 }

@@ -9,6 +9,8 @@ mod chips;
 mod files;
 mod tables;
 
-pub use chips::{Made, Setup, WEAK_PLACE, make_bank};
+pub use chips::{
+    Made, Setup, Suspending, WEAK_PLACE, make_bank, make_suspending_bank, make_whole_bank,
+};
 pub use files::{WIRINGS, Wiring, first_bytes, load, load_tables};
 pub use tables::{table, whole_table};

@@ -38,6 +38,18 @@ pub fn table(device: Device, set: Set) -> [u8; 512] {
     table
 }
 
+/// The same of a chip that may also offer programs beside a suspended erase.
+pub fn suspend_table(device: Device, set: Set, programs: bool) -> [u8; 512] {
+    let mut table = table(device, set);
+    if programs {
+        match set {
+            Set::Intel => table[0x3A] = 0x01,
+            Set::Amd => table[0x37] = 0x02,
+        }
+    }
+    table
+}
+
 /// The same with all that a set can offer: a buffer of 32 bytes, programs beside a suspended erase, locks.
 pub fn whole_table(set: Set) -> [u8; 512] {
     let mut table = table(Device::X16, set);

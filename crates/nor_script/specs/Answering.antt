@@ -36,7 +36,8 @@ AnswersWord word caller (e ∷ close ∷ more ∷ entries) = ⊥
 abbrev pub AnswersLines : List Line → List Entry → Type 0
 AnswersLines [] entries = entries ≡ []
 AnswersLines (line ∷ lines) entries =
-    (first : List Entry) × (rest : List Entry) × (entries ≡ first ++ rest) × AnswersWord line.word line.caller first × AnswersLines lines rest
+    (first : List Entry) × (rest : List Entry) × (entries ≡ first ++ rest)
+    × AnswersWord line.word line.caller first × AnswersLines lines rest
 
 -- A history answers a script that one thread runs.
 abbrev pub AnswersRun : List Line → List Entry → Type 0

@@ -7,11 +7,13 @@ use Rattle.nor_script.specs.declared.line.Line.{Line}
 
 -- One line is answered by its own entries.
 abbrev pub LinesAreAnswered : Type 0
-LinesAreAnswered = (line : Line) (entries : List Entry) → AnswersWord line.word line.caller entries → AnswersLines (line ∷ []) entries
+LinesAreAnswered = (line : Line) (entries : List Entry)
+    → AnswersWord line.word line.caller entries → AnswersLines (line ∷ []) entries
 
 -- A history that answers some lines, and behind it one that answers others, answer them all.
 abbrev pub AnswersGoOn : Type 0
-AnswersGoOn = (lines more : List Line) (entries later : List Entry) → AnswersLines lines entries → AnswersLines more later → AnswersLines (lines ++ more) (entries ++ later)
+AnswersGoOn = (lines more : List Line) (entries later : List Entry) → AnswersLines lines entries
+    → AnswersLines more later → AnswersLines (lines ++ more) (entries ++ later)
 
 -- What a text says is a script: each line has its caller, and there are at most 65,536.
 abbrev pub TextsSayScripts : Type 0

@@ -11,7 +11,8 @@ and_digit base before (Some digit) =
 abbrev pub number_from : ℕ → Option ℕ → List ℕ → Option ℕ
 number_from base None digits = None
 number_from base (Some before) [] = Some before
-number_from base (Some before) (digit ∷ digits) = number_from base (and_digit base before (hex_digit_value digit)) digits
+number_from base (Some before) (digit ∷ digits) =
+    number_from base (and_digit base before (hex_digit_value digit)) digits
 
 -- one digit at least, and so many at most
 abbrev pub digits_number : ℕ → ℕ → List ℕ → Option ℕ

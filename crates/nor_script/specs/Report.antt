@@ -104,7 +104,8 @@ totals_text lanes entries = lane_lines 0 lanes ++ count_line entries
 -- the lines of the entries from a place on
 abbrev pub entry_lines : ℕ → List Entry → List ℕ
 entry_lines position [] = []
-entry_lines position (e ∷ entries) = entry_line position e.caller e.op e.reply e.bytes ++ entry_lines (position + 1) entries
+entry_lines position (e ∷ entries) = entry_line position e.caller e.op e.reply e.bytes
+    ++ entry_lines (position + 1) entries
 
 -- the report of a history, with each lane's counters
 abbrev pub report_text : List Entry → List (ℕ × ℕ) → List ℕ

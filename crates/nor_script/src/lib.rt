@@ -36,8 +36,6 @@ mod line;
 mod number;
 mod report;
 mod script;
-#[cfg(test)]
-mod tests;
 mod text;
 mod verb;
 

@@ -1,24 +1,26 @@
 //! The commands of set 0002, AMD standard, on a bank of any wiring.
 //!
-//! The calls of both sets are one: nor_poll has them, with the set as a parameter, and its `cycles_of`
-//! has the codes in which the sets differ. Here stand those of this set, under the names that a caller of
-//! one set takes.
+//! The calls of both sets are one: nor_poll has them, with the set as a parameter. The sets differ there in
+//! the codes of `cycles_of`, in those that resume an erase, and in the polls. Here stand the calls of this
+//! set, under the names that a caller of one set takes.
 #![tactic(auto)]
 
-ghost use Rattle.std.specs.Prelude.{◌≡◌, ◌+◌, IsTrue, IfOk, IfErr, OnOk, OnErr};
+ghost use Rattle.std.specs.Prelude.{◌≡◌, ◌≤◌, ◌+◌, true, false, IsTrue, IfOk, IfErr, OnOk, OnErr, length, map};
 ghost use Rattle.nor_cell.specs.Between.{AtRest};
 ghost use Rattle.nor_cell.specs.Wiring.{is_wiring};
 ghost use Rattle.nor_cell.specs.declared.device.Set.TheVariants.{Amd};
-ghost use Rattle.nor_bus.specs.Driven.{Lost, EachLane, Reaches, Counted, Asks, EachPart};
-ghost use Rattle.nor_poll.specs.Codes.{cycle_count};
+ghost use Rattle.nor_bus.specs.Driven.{Lost, EachLane, Reaches, Counted, Asks, EachPart, Darkens};
+ghost use Rattle.nor_poll.specs.Buffer.{EachLoad, ReachesAll, ProgramsLoad, AreLoadsBroken, IsLoadPrompt, LoadHalts, load_most};
+ghost use Rattle.nor_poll.specs.Codes.{cycle_count, cycles_of, DarkensIn};
 ghost use Rattle.nor_poll.specs.Erase.{TakesErase, TakesEraseAll, TakesLook, BeginsErase, BeginsEraseAll, ChangesWithinErase, LooksAll, look_reads};
+ghost use Rattle.nor_poll.specs.Lock.{OffersLocks, SetsLock, LosesLock, TellsLock};
 ghost use Rattle.nor_poll.specs.Rest.{Settles};
-ghost use Rattle.nor_poll.specs.Losing.{LosesNone};
+ghost use Rattle.nor_poll.specs.Losing.{LosesNone, BeginsNone, DarkensLooking};
 ghost use Rattle.nor_poll.specs.Resume.{TakesResume, ResumesAll};
 ghost use Rattle.nor_poll.specs.Suspend.{SuspendsAll, SuspendHalts};
 ghost use Rattle.nor_poll.specs.UnderErase.{EachUnder};
 ghost use Rattle.nor_poll.specs.Word.{ProgramsWord, AreBroken, IsPrompt, WordHalts, word_most};
-ghost use Rattle.nor_poll.specs.declared.codes.Command.TheVariants.{ClearErrors, EraseBlock, EraseAll, ShowStatus};
+ghost use Rattle.nor_poll.specs.declared.codes.Command.TheVariants.{LockBlock, UnlockBlock, ShowLocks, LeaveLocks, ClearErrors, EraseBlock, EraseAll, ShowStatus};
 
 use nor_bus::{Bus, Off};
 use nor_cell::{Geometry, Set};
@@ -46,12 +48,40 @@ pub fn program_word<W: BusWord, B: Bus<W>>(
     nor_poll::program_word::<W, B>(Set::Amd, bus, g, at, new, limit)
 }
 
+/// Programs bus words by one buffer load, each lane its parts: `program_buffer` of nor_poll.
+pub fn program_buffer<W: BusWord, B: Bus<W>>(
+    bus: &mut B,
+    g: Geometry,
+    at: u32,
+    new: &[W],
+    limit: u32,
+) -> Result<LaneSet, Halt>
+    requires wiring { IsTrue (is_wiring W.WIDTH g.lanes g.device) }
+    requires some { 1 ≤ length new.now }
+    requires few { length new.now ≤ 256 }
+    ensures done { OnOk result (ReachesAll W.WIDTH g at (length new.now) (B.state bus.old)
+        → EachLoad (map W.bytes new.now) (ProgramsLoad Amd at (length new.now))
+        (B.state bus.old) (B.state bus.new)) }
+    ensures broken { IfOk result (AreLoadsBroken Amd W.WIDTH g at (map W.bytes new.now)
+        (B.state bus.old)) }
+    ensures cycles { OnOk result (Counted (length new.now + 6)
+        (load_most Amd (length new.now) limit) (B.state bus.old) (B.state bus.new)) }
+    ensures prompt { IfOk result (IsLoadPrompt Amd W.WIDTH g at (length new.now)
+        (B.state bus.old) (B.state bus.new)) }
+    ensures halts { IfErr result (LoadHalts Amd W.WIDTH g at (map W.bytes new.now) limit
+        (B.state bus.old) (B.state bus.new)) }
+{
+    nor_poll::program_buffer::<W, B>(Set::Amd, bus, g, at, new, limit)
+}
+
 /// Clears the errors of every lane, and lets it show its array, but for a held block: `settle` of nor_poll.
 pub fn settle<W: BusWord, B: Bus<W>>(bus: &mut B, g: Geometry, lanes: Lanes) -> Result<(), Off>
     ensures settles { OnOk result (Reaches W.WIDTH g 0 (B.state bus.old)
         → EachLane (Settles Amd) (B.state bus.old) (B.state bus.new)) }
     ensures loses { OnErr result (Reaches W.WIDTH g 0 (B.state bus.old)
         → EachLane (LosesNone (AtRest Amd)) (B.state bus.old) (B.state bus.new)) }
+    ensures dark { OnErr result (Reaches W.WIDTH g 0 (B.state bus.old)
+        → EachLane (DarkensIn 0 (cycles_of Amd ClearErrors)) (B.state bus.old) (B.state bus.new)) }
     ensures cycles { Asks (cycle_count Amd ClearErrors) result (B.state bus.old) (B.state bus.new) }
 {
     nor_poll::settle::<W, B>(Set::Amd, bus, g, lanes)
@@ -62,7 +92,9 @@ pub fn erase_start<W: BusWord, B: Bus<W>>(bus: &mut B, g: Geometry, at: u32) -> 
     ensures begins { OnOk result (Reaches W.WIDTH g at (B.state bus.old)
         → EachLane (BeginsErase Amd at) (B.state bus.old) (B.state bus.new)) }
     ensures loses { OnErr result (Reaches W.WIDTH g at (B.state bus.old)
-        → EachLane (LosesNone (TakesErase Amd at)) (B.state bus.old) (B.state bus.new)) }
+        → EachLane (BeginsNone (TakesErase Amd at)) (B.state bus.old) (B.state bus.new)) }
+    ensures dark { OnErr result (Reaches W.WIDTH g at (B.state bus.old)
+        → EachLane (DarkensIn at (cycles_of Amd EraseBlock)) (B.state bus.old) (B.state bus.new)) }
     ensures cycles { Asks (cycle_count Amd EraseBlock) result (B.state bus.old) (B.state bus.new) }
 {
     nor_poll::erase_start::<W, B>(Set::Amd, bus, g, at)
@@ -73,7 +105,9 @@ pub fn erase_all_start<W: BusWord, B: Bus<W>>(bus: &mut B, g: Geometry) -> Resul
     ensures begins { OnOk result (Reaches W.WIDTH g 0 (B.state bus.old)
         → EachLane BeginsEraseAll (B.state bus.old) (B.state bus.new)) }
     ensures loses { OnErr result (Reaches W.WIDTH g 0 (B.state bus.old)
-        → EachLane (LosesNone TakesEraseAll) (B.state bus.old) (B.state bus.new)) }
+        → EachLane (BeginsNone TakesEraseAll) (B.state bus.old) (B.state bus.new)) }
+    ensures dark { OnErr result (Reaches W.WIDTH g 0 (B.state bus.old)
+        → EachLane (DarkensIn 0 (cycles_of Amd EraseAll)) (B.state bus.old) (B.state bus.new)) }
     ensures cycles { Asks (cycle_count Amd EraseAll) result (B.state bus.old) (B.state bus.new) }
 {
     nor_poll::erase_all_start::<W, B>(bus, g)
@@ -91,6 +125,8 @@ pub fn erase_look<W: BusWord, B: Bus<W>>(
         (B.state bus.old) (B.state bus.new)) }
     ensures loses { OnErr result (EachUnder (TakesLook Amd) ChangesWithinErase W.WIDTH g at lanes
         (B.state bus.old) (B.state bus.new)) }
+    ensures dark { OnErr result (Reaches W.WIDTH g at (B.state bus.old)
+        → EachLane (DarkensLooking at (cycles_of Amd ShowStatus)) (B.state bus.old) (B.state bus.new)) }
     ensures lost { OnErr result (Lost (cycle_count Amd ShowStatus + look_reads Amd)
         (B.state bus.old) (B.state bus.new)) }
 {
@@ -125,7 +161,44 @@ pub fn resume<W: BusWord, B: Bus<W>>(
         (B.state bus.old) (B.state bus.new)) }
     ensures loses { OnErr result (EachUnder (TakesResume Amd) ChangesWithinErase W.WIDTH g at lanes
         (B.state bus.old) (B.state bus.new)) }
+    ensures dark { OnErr result (EachLane Darkens (B.state bus.old) (B.state bus.new)) }
     ensures cycles { Asks 1 result (B.state bus.old) (B.state bus.new) }
 {
     nor_poll::resume::<W, B>(Set::Amd, bus, g, at, lanes)
+}
+
+/// Locks the block of bus address `at`, in every lane: `lock` of nor_poll.
+pub fn lock<W: BusWord, B: Bus<W>>(bus: &mut B, g: Geometry, at: u32) -> Result<(), Off>
+    ensures locks { OnOk result (Reaches W.WIDTH g at (B.state bus.old)
+        → EachLane (SetsLock Amd at true) (B.state bus.old) (B.state bus.new)) }
+    ensures loses { OnErr result (Reaches W.WIDTH g at (B.state bus.old)
+        → LosesLock Amd at true (B.state bus.old) (B.state bus.new)) }
+    ensures cycles { Asks (cycle_count Amd LockBlock + cycle_count Amd LeaveLocks) result
+        (B.state bus.old) (B.state bus.new) }
+{
+    nor_poll::lock::<W, B>(Set::Amd, bus, g, at)
+}
+
+/// Unlocks the block of bus address `at`, in every lane: `unlock` of nor_poll.
+pub fn unlock<W: BusWord, B: Bus<W>>(bus: &mut B, g: Geometry, at: u32) -> Result<(), Off>
+    ensures unlocks { OnOk result (Reaches W.WIDTH g at (B.state bus.old)
+        → EachLane (SetsLock Amd at false) (B.state bus.old) (B.state bus.new)) }
+    ensures loses { OnErr result (Reaches W.WIDTH g at (B.state bus.old)
+        → LosesLock Amd at false (B.state bus.old) (B.state bus.new)) }
+    ensures cycles { Asks (cycle_count Amd UnlockBlock + cycle_count Amd LeaveLocks) result
+        (B.state bus.old) (B.state bus.new) }
+{
+    nor_poll::unlock::<W, B>(Set::Amd, bus, g, at)
+}
+
+/// Whether the block that begins at bus address `at` is locked in some lane: `is_locked` of nor_poll.
+pub fn is_locked<W: BusWord, B: Bus<W>>(bus: &mut B, g: Geometry, at: u32) -> Result<bool, Off>
+    requires wiring { IsTrue (is_wiring W.WIDTH g.lanes g.device) }
+    ensures tells { IfOk result (TellsLock Amd W.WIDTH g at (B.state bus.old) (B.state bus.new)) }
+    ensures loses { OnErr result (Reaches W.WIDTH g at (B.state bus.old)
+        → EachLane (LosesNone (OffersLocks Amd)) (B.state bus.old) (B.state bus.new)) }
+    ensures cycles { Asks (cycle_count Amd ShowLocks + 1 + cycle_count Amd LeaveLocks) result
+        (B.state bus.old) (B.state bus.new) }
+{
+    nor_poll::is_locked::<W, B>(Set::Amd, bus, g, at)
 }

@@ -102,4 +102,5 @@ query_lines device q = buffer_lines device q ++ times_line q.times ++ version_li
 
 -- what a bank is: its wiring, its query table, and its map of erase regions
 abbrev pub shown_lines : ℕ → Geometry → Query → List Region → List ℕ
-shown_lines width g q map = wiring_lines width g ++ size_lines q map ++ query_lines g.device q ++ region_lines 0 map ++ limit_lines q map
+shown_lines width g q map = wiring_lines width g ++ size_lines q map ++ query_lines g.device q
+    ++ region_lines 0 map ++ limit_lines q map

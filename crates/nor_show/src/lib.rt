@@ -11,8 +11,6 @@
 mod lines;
 mod names;
 mod refusals;
-#[cfg(test)]
-mod tests;
 
 pub use lines::show_text;
 pub use names::{DeviceName, HexByte, HexWord, SetName, SuspendName, YesOrNo};

@@ -11,7 +11,8 @@ use std::alloc::{AllocError, Global};
 use std::fmt::Write;
 
 fn write_wiring(text: &mut String, width: u8, g: Geometry) -> Result<(), AllocError>
-    ensures { OnOk result (string_bytes text.new ≡ string_bytes text.old ++ wiring_lines width g) }
+    ensures { OnOk result (string_bytes text.new
+        ≡ string_bytes text.old ++ wiring_lines width g) }
 {
     let lanes = g.lanes;
     let device = DeviceName(g.device);
@@ -20,7 +21,8 @@ fn write_wiring(text: &mut String, width: u8, g: Geometry) -> Result<(), AllocEr
 
 fn write_sizes(text: &mut String, query: &Query, map: &BlockMap) -> Result<(), AllocError>
     requires size { query.now.size_log ≤ 27 }
-    ensures { OnOk result (string_bytes text.new ≡ string_bytes text.old ++ size_lines query.now map.now) }
+    ensures { OnOk result (string_bytes text.new
+        ≡ string_bytes text.old ++ size_lines query.now map.now) }
 {
     let set = SetName(query.set);
     let size = 1u32 << query.size_log;
@@ -40,7 +42,8 @@ fn buffer_bytes(device: Device, query: &Query) -> u32
 }
 
 fn write_buffer(text: &mut String, device: Device, query: &Query) -> Result<(), AllocError>
-    ensures { OnOk result (string_bytes text.new ≡ string_bytes text.old ++ buffer_lines device query.now) }
+    ensures { OnOk result (string_bytes text.new
+        ≡ string_bytes text.old ++ buffer_lines device query.now) }
 {
     let interface = query.interface;
     let buffer = buffer_bytes(device, query);
@@ -49,7 +52,8 @@ fn write_buffer(text: &mut String, device: Device, query: &Query) -> Result<(), 
 
 // Numbers with a space before each.
 fn write_spaced(text: &mut String, numbers: &[u8]) -> Result<(), AllocError>
-    ensures { OnOk result (string_bytes text.new ≡ string_bytes text.old ++ spaced numbers.now) }
+    ensures { OnOk result (string_bytes text.new
+        ≡ string_bytes text.old ++ spaced numbers.now) }
 {
     for number in numbers {
         write!(text, " {number}")?;
@@ -58,7 +62,8 @@ fn write_spaced(text: &mut String, numbers: &[u8]) -> Result<(), AllocError>
 }
 
 fn write_times(text: &mut String, times: [u8; 8]) -> Result<(), AllocError>
-    ensures { OnOk result (string_bytes text.new ≡ string_bytes text.old ++ times_line times) }
+    ensures { OnOk result (string_bytes text.new
+        ≡ string_bytes text.old ++ times_line times) }
 {
     write!(text, "times")?;
     write_spaced(text, &times)?;
@@ -66,7 +71,8 @@ fn write_times(text: &mut String, times: [u8; 8]) -> Result<(), AllocError>
 }
 
 fn write_version(text: &mut String, query: &Query) -> Result<(), AllocError>
-    ensures { OnOk result (string_bytes text.new ≡ string_bytes text.old ++ version_lines query.now) }
+    ensures { OnOk result (string_bytes text.new
+        ≡ string_bytes text.old ++ version_lines query.now) }
 {
     let minor = query.minor;
     let set = HexWord(query.alt_set);
@@ -75,7 +81,8 @@ fn write_version(text: &mut String, query: &Query) -> Result<(), AllocError>
 }
 
 fn write_offers(text: &mut String, query: &Query) -> Result<(), AllocError>
-    ensures { OnOk result (string_bytes text.new ≡ string_bytes text.old ++ offer_lines query.now) }
+    ensures { OnOk result (string_bytes text.new
+        ≡ string_bytes text.old ++ offer_lines query.now) }
 {
     let suspend = SuspendName(query.suspend_kind());
     let locks = YesOrNo(query.has_locks());
@@ -83,7 +90,8 @@ fn write_offers(text: &mut String, query: &Query) -> Result<(), AllocError>
 }
 
 fn write_regions(text: &mut String, regions: &[Region]) -> Result<(), AllocError>
-    ensures { OnOk result (string_bytes text.new ≡ string_bytes text.old ++ region_lines 0 regions.now) }
+    ensures { OnOk result (string_bytes text.new
+        ≡ string_bytes text.old ++ region_lines 0 regions.now) }
 {
     for (k, region) in regions.iter().enumerate() {
         let (count, size) = (region.count, region.size);
@@ -93,7 +101,8 @@ fn write_regions(text: &mut String, regions: &[Region]) -> Result<(), AllocError
 }
 
 fn write_limits(text: &mut String, query: &Query, map: &BlockMap) -> Result<(), AllocError>
-    ensures { OnOk result (string_bytes text.new ≡ string_bytes text.old ++ limit_lines query.now map.now) }
+    ensures { OnOk result (string_bytes text.new
+        ≡ string_bytes text.old ++ limit_lines query.now map.now) }
 {
     let blocks = map.blocks();
     let word = query.limit(Work::Word);
@@ -104,7 +113,8 @@ fn write_limits(text: &mut String, query: &Query, map: &BlockMap) -> Result<(), 
 
 // What the query table says of a device.
 fn write_query(text: &mut String, device: Device, query: &Query) -> Result<(), AllocError>
-    ensures { OnOk result (string_bytes text.new ≡ string_bytes text.old ++ query_lines device query.now) }
+    ensures { OnOk result (string_bytes text.new
+        ≡ string_bytes text.old ++ query_lines device query.now) }
 {
     write_buffer(text, device, query)?;
     write_times(text, query.times)?;

@@ -1,92 +1,143 @@
 //! Blocks are erased by the calls of either set: what each call tells of two chips, in how many cycles.
+ghost use Rattle.std.specs.Prelude.{IsTrue};
+ghost use Rattle.nor_cell.specs.Wiring.{is_wiring};
 
 use crate::words::{TWO_CHIPS, program_word, reads, settle, two_chips};
 use LaneState::{Broken, Finished, Running, Suspended};
 use nor_amd::Amd;
 use nor_bus::{Bus, Off, SimBank};
-use nor_cell::Set;
+use nor_cell::{Geometry, Set};
 use nor_intel::Intel;
 use nor_poll::{Halt, LaneState, Lanes};
 use nor_samples::Made;
 use nor_set1 as set1;
 use nor_set2 as set2;
+use nor_word::BusWord;
 use std::alloc::Global;
 use std::process::Abort;
 use std::test::Fail;
 
-type Bank<C> = SimBank<u32, C>;
+pub type Bank<C> = SimBank<u32, C>;
 
-/// A call on the block at bus address 0, or a number of looks at it.
+/// A bus address outside the block at 0.
+pub const BESIDE: u32 = 0x400;
+
+/// A call on the block at bus address 0, or a word programmed outside it.
 #[derive(Clone, Copy, Debug, PartialEq, Eq)]
-enum Call {
+pub enum Call {
     Begin,
     BeginAll,
     Look,
     Suspend,
     Resume,
+    Word,
 }
 
-// What a call says of lanes 0 and 1.
-type Told = Result<[LaneState; 2], Halt>;
+/// What a call says of lanes 0 and 1.
+pub type Told = Result<[LaneState; 2], Halt>;
 
-fn begin<C: Made>(bank: &mut Bank<C>, all: bool) -> Result<(), Off> {
-    match (C::SET, all) {
-        (Set::Amd, true) => set2::erase_all_start(bank, TWO_CHIPS),
-        (Set::Amd, false) => set2::erase_start(bank, TWO_CHIPS, 0),
-        (Set::Intel, _) => set1::erase_start(bank, TWO_CHIPS, 0),
+pub fn begin<W: BusWord, B: Bus<W>>(
+    set: Set,
+    bus: &mut B,
+    g: Geometry,
+    all: bool,
+) -> Result<(), Off> {
+    match (set, all) {
+        (Set::Amd, true) => set2::erase_all_start::<W, B>(bus, g),
+        (Set::Amd, false) => set2::erase_start::<W, B>(bus, g, 0),
+        (Set::Intel, _) => set1::erase_start::<W, B>(bus, g, 0),
     }
 }
 
-fn look<C: Made>(bank: &mut Bank<C>, lanes: Lanes) -> Result<Lanes, Off> {
-    match C::SET {
-        Set::Intel => set1::erase_look(bank, TWO_CHIPS, 0, lanes),
-        Set::Amd => set2::erase_look(bank, TWO_CHIPS, 0, lanes),
+pub fn look<W: BusWord, B: Bus<W>>(
+    set: Set,
+    bus: &mut B,
+    g: Geometry,
+    lanes: Lanes,
+) -> Result<Lanes, Off>
+    requires { IsTrue (is_wiring W.WIDTH g.lanes g.device) }
+{
+    match set {
+        Set::Intel => set1::erase_look::<W, B>(bus, g, 0, lanes),
+        Set::Amd => set2::erase_look::<W, B>(bus, g, 0, lanes),
     }
 }
 
-fn suspend<C: Made>(bank: &mut Bank<C>, lanes: Lanes) -> Result<Lanes, Halt> {
-    match C::SET {
-        Set::Intel => set1::suspend(bank, TWO_CHIPS, 0, lanes),
-        Set::Amd => set2::suspend(bank, TWO_CHIPS, 0, lanes),
+pub fn suspend<W: BusWord, B: Bus<W>>(
+    set: Set,
+    bus: &mut B,
+    g: Geometry,
+    lanes: Lanes,
+) -> Result<Lanes, Halt>
+    requires { IsTrue (is_wiring W.WIDTH g.lanes g.device) }
+{
+    match set {
+        Set::Intel => set1::suspend::<W, B>(bus, g, 0, lanes),
+        Set::Amd => set2::suspend::<W, B>(bus, g, 0, lanes),
     }
 }
 
-fn resume<C: Made>(bank: &mut Bank<C>, lanes: Lanes) -> Result<Lanes, Off> {
-    match C::SET {
-        Set::Intel => set1::resume(bank, TWO_CHIPS, 0, lanes),
-        Set::Amd => set2::resume(bank, TWO_CHIPS, 0, lanes),
+pub fn resume<W: BusWord, B: Bus<W>>(
+    set: Set,
+    bus: &mut B,
+    g: Geometry,
+    lanes: Lanes,
+) -> Result<Lanes, Off>
+    requires { IsTrue (is_wiring W.WIDTH g.lanes g.device) }
+{
+    match set {
+        Set::Intel => set1::resume::<W, B>(bus, g, 0, lanes),
+        Set::Amd => set2::resume::<W, B>(bus, g, 0, lanes),
     }
 }
 
-fn both(state: LaneState) -> Lanes {
-    Lanes {
-        lanes: [state, state, Finished, Finished],
+/// Each of the first lanes is so, and the others are finished.
+pub fn first_lanes(state: LaneState, count: u8) -> Lanes {
+    let mut lanes = [Finished; 4];
+    for lane in 0..4_u8 {
+        if lane < count {
+            lanes[lane as usize] = state;
+        }
     }
+    Lanes { lanes }
 }
 
-fn make_call<C: Made>(bank: &mut Bank<C>, call: Call, lanes: Lanes) -> Result<Lanes, Halt> {
+/// Makes the call: where each lane is then.
+pub fn make_call<W: BusWord, B: Bus<W>>(
+    set: Set,
+    bus: &mut B,
+    g: Geometry,
+    call: Call,
+    lanes: Lanes,
+) -> Result<Lanes, Halt>
+    requires { IsTrue (is_wiring W.WIDTH g.lanes g.device) }
+{
     let now = match call {
         Call::Begin => {
-            begin(bank, false)?;
-            both(Running)
+            begin::<W, B>(set, bus, g, false)?;
+            first_lanes(Running, g.lanes)
         }
         Call::BeginAll => {
-            begin(bank, true)?;
-            both(Running)
+            begin::<W, B>(set, bus, g, true)?;
+            first_lanes(Running, g.lanes)
         }
-        Call::Look => look(bank, lanes)?,
-        Call::Suspend => suspend(bank, lanes)?,
-        Call::Resume => resume(bank, lanes)?,
+        Call::Look => look::<W, B>(set, bus, g, lanes)?,
+        Call::Suspend => suspend::<W, B>(set, bus, g, lanes)?,
+        Call::Resume => resume::<W, B>(set, bus, g, lanes)?,
+        Call::Word => {
+            program_word::<W, B>(set, bus, g, BESIDE, W::splat(0x5A))?;
+            lanes
+        }
     };
     Ok(now)
 }
 
-// Makes the calls, one after another: each tells this in so many cycles.
-fn makes<C: Made>(rt: &impl Abort, bank: &mut Bank<C>, rows: &[(Call, u64, Told)]) {
-    let mut lanes = both(Finished);
+/// Makes the calls, one after another: each tells this in so many cycles.
+pub fn makes<C: Made>(rt: &impl Abort, bank: &mut Bank<C>, rows: &[(Call, u64, Told)]) {
+    let mut lanes = first_lanes(Finished, 2);
     for (call, cycles, told) in rows {
         let before = bank.cycles();
-        let now = make_call(bank, *call, lanes);
+        let now = make_call::<u32, Bank<C>>(C::SET, bank, TWO_CHIPS, *call, lanes);
         let made = bank.cycles().wrapping_sub(before);
         assert_eq!(rt;
             now.map(|now| [now.lanes[0], now.lanes[1]]),
@@ -98,11 +149,11 @@ fn makes<C: Made>(rt: &impl Abort, bank: &mut Bank<C>, rows: &[(Call, u64, Told)
     }
 }
 
-const ON: Told = Ok([Running, Running]);
+pub const ON: Told = Ok([Running, Running]);
 
-const HELD: Told = Ok([Suspended, Suspended]);
+pub const HELD: Told = Ok([Suspended, Suspended]);
 
-const DONE: Told = Ok([Finished, Finished]);
+pub const DONE: Told = Ok([Finished, Finished]);
 
 // A chip works for three reads of an erase. Set 0001 reads once a look, after the code that shows the
 // status; set 0002 twice, and a third time where the first pair showed a toggle that had ended.
@@ -166,7 +217,7 @@ fn erases<C: Made>(rt: &impl Abort, alloc: Global, rows: &[(Call, u64, Told)]) -
     let mut bank = two_chips::<C>(alloc, None, None)?;
     assert!(rt; program_word(C::SET, &mut bank, TWO_CHIPS, 7, 0).is_ok());
     makes(rt, &mut bank, rows);
-    assert!(rt; settle(C::SET, &mut bank, TWO_CHIPS, both(Finished)).is_ok());
+    assert!(rt; settle(C::SET, &mut bank, TWO_CHIPS, first_lanes(Finished, 2)).is_ok());
     reads(rt, &mut bank, 7, 0xFFFF_FFFF);
     Ok(())
 }

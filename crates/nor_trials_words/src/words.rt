@@ -17,7 +17,7 @@ use std::process::Abort;
 use std::test::Fail;
 
 // A word of these chips shows working for at most 2^6 reads, and a driver makes 16 more.
-const LIMIT: u32 = 80;
+pub const LIMIT: u32 = 80;
 
 pub const NO_LANE: LaneSet = LaneSet { bits: 0 };
 
@@ -67,7 +67,7 @@ pub fn writes(set: Set) -> u32 {
 
 // How many cycles a word takes beside the reads that show working. Set 0001 ends with one read and a
 // write, set 0002 with one read of one lane, or with two of more.
-fn cycles_beside(set: Set, lanes: u8) -> u32 {
+pub fn cycles_beside(set: Set, lanes: u8) -> u32 {
     let ends = match set {
         Set::Amd if lanes == 1 => 1,
         _ => 2,

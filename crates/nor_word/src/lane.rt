@@ -23,7 +23,8 @@ pub fn lane_put<W: BusWord>(word: W, lane: u8, bytes: u8, value: u16) -> W
     requires one_or_two { (1 ≤ bytes) × (bytes ≤ 2) }
     requires within { lane * bytes + bytes ≤ W.WIDTH }
     ensures there { lane_of bytes (W.bytes result) lane ≡ value % 256 ^ bytes }
-    ensures others { (c : ℕ) → c ≢ lane → lane_of bytes (W.bytes result) c ≡ lane_of bytes (W.bytes word) c }
+    ensures others { (c : ℕ) → c ≢ lane
+        → lane_of bytes (W.bytes result) c ≡ lane_of bytes (W.bytes word) c }
 {
     let [low, high] = value.to_le_bytes();
     if bytes == 1 {

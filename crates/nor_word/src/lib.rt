@@ -10,6 +10,3 @@ mod word;
 
 pub use lane::{lane_get, lane_put};
 pub use word::BusWord;
-
-#[cfg(test)]
-mod tests;

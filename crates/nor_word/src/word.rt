@@ -44,7 +44,8 @@ pub trait BusWord: Copy + Eq + Drop {
 
     /// AND, byte by byte.
     final fn and(self, other: Self) -> Self
-        ensures { (k : ℕ) → slice_index (bytes result) k ≡ bit_and (slice_index (bytes self) k) (slice_index (bytes other) k) }
+        ensures { (k : ℕ) → slice_index (bytes result) k
+            ≡ bit_and (slice_index (bytes self) k) (slice_index (bytes other) k) }
     {
         let mut word = self;
         for k in 0..Self::WIDTH {

@@ -1,14 +1,15 @@
 -- What reading a bank leaves of it, and how it ends.
-use Rattle.std.proofs.Common.{◌≡◌, ◌<◌, ◌≤◌, ◌+◌, ◌*◌, ◌/◌, ◌%◌, ◌∙◌, ℕ, zero, suc, List, [], ◌∷◌, ◌++◌, length, slice_index, refl, sym, ap, subst, arith, true, false, nat_lt, codes}
-use Rattle.std.proofs.Math.Nat.{mul_left_comm}
+use Rattle.std.proofs.Common.{◌≡◌, ◌<◌, ◌≤◌, ◌+◌, ◌*◌, ◌/◌, ◌%◌, ◌∙◌, ℕ, zero, suc, List, [], ◌∷◌, ◌++◌, length, slice_index, refl, sym, ap, subst, arith, codes}
+use Rattle.std.proofs.Math.Nat.{mul_left_comm, mul-le-mul}
 use Rattle.hex.specs.Hex.{encode_lower, lower_digits}
 use Rattle.nor_cell.specs.Bits.{unit_len}
 use Rattle.nor_cell.specs.Chip.{ChipState}
 use Rattle.nor_cell.specs.declared.device.Device.{Device}
+use Rattle.nor_cell.specs.declared.device.Device.TheVariants.{X8, X16, X16Byte}
 use Rattle.nor_bus.specs.Bus.{BusState, IsBank, IsWired, lane, lanes_of, chip_at, units_of, wide, bank_byte, bank_bytes, bank_size}
 use Rattle.nor_bus.specs.Cycles.{KeepsLanes}
 use Rattle.nor_bus.specs.Driven.{EachLane, AllLanes, Went}
-use Rattle.nor_bus.proofs.Driving.{some_lane, fills_word, bank_kept, still_none}
+use Rattle.nor_bus.proofs.Driving.{some_lane, few_lanes, fills_word, bank_kept, still_none}
 use Rattle.nor_bus.proofs.Sizes.{bus_units}
 use Rattle.nor_io.proofs.Putting.{encode-append}
 use Rattle.nor_lane.proofs.Places.{lane_at_below}
@@ -104,10 +105,14 @@ bank_words width device bus wired bank =
     ∙ (ap (λ (n : ℕ). lanes_of bus * (units_of bus * n)) d
     ∙ (mul_left_comm (lanes_of bus) (units_of bus) (unit_len device) ∙ ap (λ (n : ℕ). units_of bus * n) fills))
 
--- ---- comparisons
+unit_most : (device : Device) → unit_len device ≤ 2
+unit_most X8 = omega arith
+unit_most X16 = omega arith
+unit_most X16Byte = omega arith
 
-pub lt_true : (m n : ℕ) → m < n → nat_lt m n ≡ true
-lt_true m n less = grind (arith, less)
-
-pub lt_false : (m n : ℕ) → n ≤ m → nat_lt m n ≡ false
-lt_false m n less = grind (arith, less)
+-- a bank has at most 2 ^ 30 bytes
+pub few_bytes : (width : ℕ) (bus : BusState) → IsWired width bus → units_of bus * width ≤ 1073741824
+few_bytes width bus wired =
+    let lanes : length bus.lanes * unit_len wired.device ≤ 8 = mul-le-mul (few_lanes width wired.device bus.lanes wired.bank) (unit_most wired.device) in
+    let most : width ≤ 8 = subst (λ (n : ℕ). n ≤ 8) (fills_word width wired.device bus.lanes wired.bank) lanes in
+    mul-le-mul (bus_units width bus wired).1 most

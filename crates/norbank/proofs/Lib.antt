@@ -1,11 +1,14 @@
 pub mod AsAsked
 pub mod BankBytes
-pub mod FileEnds
-pub mod JobStages
+pub mod Doing
+pub mod FileChips
+pub mod Mishaps
+pub mod Opening
+pub mod Parts
 pub mod Piecewise
 pub mod Putting
+pub mod Reading
 pub mod Statuses
+pub mod Stopping
+pub mod WasDone
 pub mod WordLemmas
-mod RunStatuses
-mod RunStages
-mod RunDone

@@ -1,281 +1,170 @@
--- What a status tells of how a task ended.
-use Rattle.std.proofs.Common.{◌≡◌, ◌<◌, ◌≤◌, ◌+◌, ◌^◌, ◌∙◌, ◌⊎◌, inl, inr, ℕ, List, length, refl, sym, ap, subst, arith, Option, Some, None, Bool, true, false, nat_lt, if◌then◌else◌}
-use Rattle.std.specs.Option.{option_or, option_map}
+-- The statuses of what stops a command.
+use Rattle.std.proofs.Common.{◌≡◌, ◌≢◌, ◌<◌, ◌+◌, ◌^◌, ◌∙◌, inl, inr, ℕ, List, [], ◌∷◌, length, ap, arith, Bool, true, false, not, nat_lt, Option, Some, None, Result, Ok, Err}
+use Rattle.std.specs.Option.{option_map}
 use Rattle.nor_cell.specs.Chip.{ChipState}
-use Rattle.nor_cell.specs.declared.device.Device.{Device}
-use Rattle.nor_cell.specs.declared.geometry.Geometry.{Geometry}
-use Rattle.nor_bus.specs.Bus.{bank_bytes, bank_size}
-use Rattle.nor_query.specs.Checks.{first_error}
-use Rattle.nor_query.specs.declared.error.QueryError.{QueryError}
-use Rattle.nor_probe.specs.Found.{found_geometry}
-use Rattle.nor_probe.specs.Probed.{refusal, refusal_in, IsFoundOn}
-use Rattle.nor_probe.specs.Tables.{table_read, first_difference}
-use Rattle.nor_probe.specs.declared.error.ProbeError.{ProbeError}
-use Rattle.nor_probe.specs.declared.error.ProbeError.TheVariants.{Query}
-use Rattle.nor_probe.specs.declared.probing.Found.{Found}
-use Rattle.nor_image.specs.Image.{image_refusal, device_of, width_of}
+use Rattle.nor_bus.specs.Bus.{bank_size}
+use Rattle.nor_image.specs.Image.{image_refusal, width_of}
 use Rattle.nor_image.specs.declared.error.ImageError.{ImageError}
-use Rattle.nor_image.specs.declared.error.ImageError.TheVariants.{BadMagic, BadHeader, Truncated, Trailing, SizeDiffers, NoMemory}
-use Rattle.nor_io.specs.Files.{ShelfState, SinkState, FileMap, Rose, Appends}
-use Rattle.norbank.specs.Answering.{IsWithin, CanAnswer, IsDone}
-use Rattle.norbank.specs.Endings.{Ending, ends, refused_ending, unfound_ending, range_ending, task_ending, chips_of_file, IsBankEnding, IsFileEnding, IsNamedEnding}
-use Rattle.norbank.specs.Open.{IsAccepted, PrintsImage, ShowsImage}
-use Rattle.norbank.specs.Says.{Says, SaysOrLacks, EndsIn, BankSays, FileSays, IsFound, TaskEnds}
-use Rattle.norbank.specs.Text.{hex_line, out_of_range, too_large, no_memory, absent, read_fault}
-use Rattle.norbank.specs.declared.words.Task.{Task}
-use Rattle.norbank.specs.declared.words.Task.TheVariants.{Read, Show}
-use Rattle.norbank.proofs.BankBytes.{lt_false, lt_true}
+use Rattle.nor_image.specs.declared.error.ImageError.TheVariants.{BadMagic, BadHeader, Truncated, Trailing, SizeDiffers, NoMemory as NoImageMemory}
+use Rattle.nor_io.specs.declared.sink.SinkError.TheVariants.{Fault, NoMemory as NoSinkMemory}
+use Rattle.nor_probe.specs.Probed.{refusal}
+use Rattle.nor_probe.specs.declared.error.ProbeError.{ProbeError}
+use Rattle.nor_run.specs.Built.{are_built, is_built_bank}
+use Rattle.nor_script.specs.Script.{script_of}
+use Rattle.nor_script.specs.declared.error.ScriptError.{ScriptError}
+use Rattle.nor_script.specs.declared.error.ScriptError.TheVariants.{BadLine, BadCaller, TooManyLines, NoMemory as NoScriptMemory}
+use Rattle.nor_script.specs.declared.line.Line.{Line}
+use Rattle.norbank.specs.Done.{IsRun}
+use Rattle.norbank.specs.Endings.{status_of, done_status}
+use Rattle.norbank.specs.Stops.{when, file_stop, image_stop, text_stop, probe_stop, first_some, stops_of, chips_of_file, bytes_in, offers_locks}
+use Rattle.norbank.specs.Words.{Asked, Read, Show, Script, Drill, Unknown}
+use Rattle.norbank.specs.declared.stop.Done.{Done}
+use Rattle.norbank.specs.declared.stop.Done.TheVariants.{All, Halted}
+use Rattle.norbank.specs.declared.stop.File.{File}
+use Rattle.norbank.specs.declared.stop.File.TheVariants.{Bank, Script as ScriptFile}
+use Rattle.norbank.specs.declared.stop.Stop.{Stop}
+use Rattle.norbank.specs.declared.stop.Stop.TheVariants.{Usage, BadImage, BadScript, Unfound, Absent, TooLarge, ReadFault, WriteFault, OutOfRange, NotBuilt, NoMemory, Output}
 
--- ---- a bank that was found is accepted
+-- ---- the status of a stop
 
-accepted_in : (found : Option Geometry) (g : Geometry) (chips : List ChipState) (difference : Option ProbeError) (error : Option QueryError)
-    → found ≡ Some g → first_difference g chips ≡ difference → first_error (table_read g chips 0) ≡ error → difference ≡ None → error ≡ None
-    → refusal_in found chips ≡ None
-accepted_in found g chips difference error is first wrong same none =
-    ap (λ (f : Option Geometry). refusal_in f chips) is
-    ∙ (ap (λ (d : Option ProbeError). option_or d (option_map Query (first_error (table_read g chips 0)))) (first ∙ same)
-    ∙ ap (λ (e : Option QueryError). option_or None (option_map Query e)) (wrong ∙ none))
+pub apart : (n : ℕ) → 0 < n → n ≢ 6 → IsRun n → ⊥
+apart n some other (inl zero) = omega arith
+apart n some other (inr six) = other six
 
-pub accepted_of : (width : ℕ) (chips : List ChipState) (found : Found) → IsFoundOn width chips found → refusal width chips ≡ None
-accepted_of width chips found is =
-    accepted_in (found_geometry width chips) found.geometry chips (first_difference found.geometry chips) (first_error (table_read found.geometry chips 0))
-    is.wiring refl refl is.same is.says.stands.checks
+-- nothing that stops a command has the status of what was done
+pub never_run : (stop : Stop) → IsRun (status_of stop) → ⊥
+never_run Usage = apart 2 (omega arith) (λ x. omega arith)
+never_run (BadImage BadMagic) = apart 3 (omega arith) (λ x. omega arith)
+never_run (BadImage (BadHeader p)) = apart 3 (omega arith) (λ x. omega arith)
+never_run (BadImage (Truncated p)) = apart 3 (omega arith) (λ x. omega arith)
+never_run (BadImage (Trailing p)) = apart 3 (omega arith) (λ x. omega arith)
+never_run (BadImage (SizeDiffers l)) = apart 3 (omega arith) (λ x. omega arith)
+never_run (BadImage NoImageMemory) = apart 9 (omega arith) (λ x. omega arith)
+never_run (BadScript (BadLine line kind)) = apart 4 (omega arith) (λ x. omega arith)
+never_run (BadScript (BadCaller line)) = apart 4 (omega arith) (λ x. omega arith)
+never_run (BadScript TooManyLines) = apart 4 (omega arith) (λ x. omega arith)
+never_run (BadScript NoScriptMemory) = apart 9 (omega arith) (λ x. omega arith)
+never_run (Unfound error) = apart 5 (omega arith) (λ x. omega arith)
+never_run (Absent file) = apart 8 (omega arith) (λ x. omega arith)
+never_run (TooLarge Bank) = apart 3 (omega arith) (λ x. omega arith)
+never_run (TooLarge ScriptFile) = apart 4 (omega arith) (λ x. omega arith)
+never_run (ReadFault file) = apart 7 (omega arith) (λ x. omega arith)
+never_run WriteFault = apart 7 (omega arith) (λ x. omega arith)
+never_run OutOfRange = apart 10 (omega arith) (λ x. omega arith)
+never_run NotBuilt = apart 11 (omega arith) (λ x. omega arith)
+never_run NoMemory = apart 9 (omega arith) (λ x. omega arith)
+never_run (Output Fault) = apart 7 (omega arith) (λ x. omega arith)
+never_run (Output NoSinkMemory) = apart 9 (omega arith) (λ x. omega arith)
 
--- what ends so, or for want of memory
-pub bank_says : (task : Task) (width : ℕ) (device : Device) (chips : List ChipState) (e : Ending) (before after : SinkState) (status : ℕ) → IsBankEnding task width device chips e
-    → SaysOrLacks e before after status → BankSays task width device chips before after status
-bank_says task width device chips e before after status is (inl says) = inl (record { ending = e; is = is; says = says })
-bank_says task width device chips e before after status is (inr lacks) = inr lacks
+-- the words and the bytes of files never say that there was a fault
+abbrev pub IsPlain : Option Stop → Type 0
+IsPlain x = (stop : Stop) → x ≡ Some stop → status_of stop ≡ 7 → ⊥
 
--- a task on the file that was found under the name
-named_ends : (task : Task) (name file : List ℕ) (was now : ShelfState) (before after : SinkState) (status : ℕ) → IsFound was.files name (Some file) → length file ≤ 2 ^ 30
-    → EndsIn (IsFileEnding task file) before after status → TaskEnds task name was now before after status
-named_ends task name file was now before after status is small so = inl (record {
-  ending = so.ending;
-  is = record { found = Some file; is_found = is; is = inr (small, so.is) };
-  says = so.says;
-})
+abbrev pub ArePlain : List (Option Stop) → Type 0
+ArePlain [] = Unit {0}
+ArePlain (x ∷ later) = IsPlain x × ArePlain later
 
-pub named_is : (task : Task) (name file : List ℕ) (was now : ShelfState) (before after : SinkState) (status : ℕ) → IsFound was.files name (Some file) → length file ≤ 2 ^ 30
-    → FileSays task file before after status → TaskEnds task name was now before after status
-named_is task name file was now before after status is small (inl so) = named_ends task name file was now before after status is small so
-named_is task name file was now before after status is small (inr lacks) = inr (inr lacks)
+pub first_plain : (l : List (Option Stop)) → ArePlain l → IsPlain (first_some l)
+first_plain [] plain stop is = absurd (let x = is in cc)
+first_plain (None ∷ later) plain stop is = first_plain later plain.1 stop is
+first_plain (Some s ∷ later) plain stop is = plain.0 stop is
 
--- ---- the status of each ending
+one_plain : (s : Stop) → (status_of s ≡ 7 → ⊥) → IsPlain (Some s)
+one_plain s plain stop is seven = plain (let same : s ≡ stop = cc in ap status_of same ∙ seven)
 
--- an ending other than that all was done, and no fault
-record IsOther (e : Ending) : Type 0 where
-  done : e.code ≡ 0 → ⊥
-  fault : e.code ≡ 7 → ⊥
+none_plain : IsPlain None
+none_plain stop is = absurd (let x = is in cc)
 
-other : (e f : Ending) → e ≡ f → IsOther f → IsOther e
-other e f is low = record {
-  done = λ x. low.done (sym (ap (λ (y : Ending). y.code) is) ∙ x);
-  fault = λ x. low.fault (sym (ap (λ (y : Ending). y.code) is) ∙ x);
-}
+when_plain : (b : Bool) (s : Stop) → (status_of s ≡ 7 → ⊥) → IsPlain (when b s)
+when_plain true s plain = one_plain s plain
+when_plain false s plain = none_plain
 
-refused_other : (e : ImageError) → IsOther (refused_ending e)
-refused_other BadMagic = record { done = λ x. omega arith; fault = λ x. omega arith }
-refused_other (BadHeader p) = record { done = λ x. omega arith; fault = λ x. omega arith }
-refused_other (Truncated p) = record { done = λ x. omega arith; fault = λ x. omega arith }
-refused_other (Trailing p) = record { done = λ x. omega arith; fault = λ x. omega arith }
-refused_other (SizeDiffers l) = record { done = λ x. omega arith; fault = λ x. omega arith }
-refused_other NoMemory = record { done = λ x. omega arith; fault = λ x. omega arith }
+large_plain : (file : File) → status_of (TooLarge file) ≡ 7 → ⊥
+large_plain Bank is = omega arith
+large_plain ScriptFile is = omega arith
 
-range_by : (device : Device) (chips : List ChipState) (at len : ℕ) (b : Bool) → nat_lt (bank_size chips) (at + len) ≡ b
-    → ((if b then ends 10 out_of_range else ends 0 (hex_line (bank_bytes device chips at len))).code ≡ 7 → ⊥)
-    × ((if b then ends 10 out_of_range else ends 0 (hex_line (bank_bytes device chips at len))).code ≡ 0 → at + len ≤ bank_size chips)
-range_by device chips at len true is = (λ x. omega arith, λ x. absurd (omega arith))
-range_by device chips at len false is = (λ x. omega arith, λ x. grind (arith, is))
+file_plain : (which : File) (found : Option (List ℕ)) → IsPlain (file_stop which found)
+file_plain which None = one_plain (Absent which) (λ x. omega arith)
+file_plain which (Some bytes) = when_plain (nat_lt (2 ^ 30) (length bytes)) (TooLarge which) (large_plain which)
 
-pub range_text : (device : Device) (chips : List ChipState) (at len : ℕ) → at + len ≤ bank_size chips → range_ending device chips at len ≡ ends 0 (hex_line (bank_bytes device chips at len))
-range_text device chips at len within =
-    ap (λ (b : Bool). if b then ends 10 out_of_range else ends 0 (hex_line (bank_bytes device chips at len))) (lt_false (bank_size chips) (at + len) within)
+bad_image_plain : (e : ImageError) → status_of (BadImage e) ≡ 7 → ⊥
+bad_image_plain BadMagic is = omega arith
+bad_image_plain (BadHeader p) is = omega arith
+bad_image_plain (Truncated p) is = omega arith
+bad_image_plain (Trailing p) is = omega arith
+bad_image_plain (SizeDiffers l) is = omega arith
+bad_image_plain NoImageMemory is = omega arith
 
-pub range_past : (device : Device) (chips : List ChipState) (at len : ℕ) → bank_size chips < at + len → range_ending device chips at len ≡ ends 10 out_of_range
-range_past device chips at len past =
-    ap (λ (b : Bool). if b then ends 10 out_of_range else ends 0 (hex_line (bank_bytes device chips at len))) (lt_true (bank_size chips) (at + len) past)
+image_plain : (file : List ℕ) → IsPlain (image_stop file)
+image_plain file = by (image_refusal file)
+  where
+    by : (o : Option ImageError) → IsPlain (option_map BadImage o)
+    by None = none_plain
+    by (Some e) = one_plain (BadImage e) (bad_image_plain e)
 
-pub range_same : (device : Device) (new old : List ChipState) (at len : ℕ) → bank_size new ≡ bank_size old → bank_bytes device new at len ≡ bank_bytes device old at len
-    → range_ending device new at len ≡ range_ending device old at len
-range_same device new old at len size bytes =
-    ap (λ (n : ℕ). if nat_lt n (at + len) then ends 10 out_of_range else ends 0 (hex_line (bank_bytes device new at len))) size
-    ∙ ap (λ (l : List ℕ). if nat_lt (bank_size old) (at + len) then ends 10 out_of_range else ends 0 (hex_line l)) bytes
+bad_script_plain : (e : ScriptError) → status_of (BadScript e) ≡ 7 → ⊥
+bad_script_plain (BadLine line kind) is = omega arith
+bad_script_plain (BadCaller line) is = omega arith
+bad_script_plain TooManyLines is = omega arith
+bad_script_plain NoScriptMemory is = omega arith
 
--- what is done on a bank that was found
-task_code : (task : Task) (width : ℕ) (device : Device) (chips : List ChipState) (found : Found)
-    → ((task_ending task width device chips found).code ≡ 7 → ⊥) × ((task_ending task width device chips found).code ≡ 0 → IsWithin task (bank_size chips))
-task_code (Read at len) width device chips found = range_by device chips at len (nat_lt (bank_size chips) (at + len)) refl
-task_code Show width device chips found = (λ x. omega arith, λ x. tt)
+text_plain : (r : Result (List Line) ScriptError) → IsPlain (text_stop r)
+text_plain (Ok lines) = when_plain (not (are_built lines)) NotBuilt (λ x. omega arith)
+text_plain (Err e) = one_plain (BadScript e) (bad_script_plain e)
 
--- The task was done on the bank of the file.
-pub record DoneOn (task : Task) (file : List ℕ) (e : Ending) : Type 0 where
-  pub accepted : IsAccepted file
-  pub within : IsWithin task (bank_size (chips_of_file file))
-  pub found : Found
-  pub is : IsFoundOn (width_of file) (chips_of_file file) found
-  pub so : e ≡ task_ending task (width_of file) (device_of file) (chips_of_file file) found
+probe_plain : (width : ℕ) (chips : List ChipState) → IsPlain (probe_stop width chips)
+probe_plain width chips = by (refusal width chips)
+  where
+    by : (o : Option ProbeError) → IsPlain (option_map Unfound o)
+    by None = none_plain
+    by (Some e) = one_plain (Unfound e) (λ x. omega arith)
 
-bank_code : (task : Task) (file : List ℕ) (e : Ending) → image_refusal file ≡ None → IsBankEnding task (width_of file) (device_of file) (chips_of_file file) e
-    → (e.code ≡ 7 → ⊥) × (e.code ≡ 0 → DoneOn task file e)
-bank_code task file e formed (inl refused) =
-    let low = other e (unfound_ending refused.0) refused.2 (record { done = λ x. omega arith; fault = λ x. omega arith }) in
-    (low.fault, λ x. absurd (low.done x))
-bank_code task file e formed (inr found) =
-    let codes = task_code task (width_of file) (device_of file) (chips_of_file file) found.0 in
-    let same = ap (λ (y : Ending). y.code) found.2 in (
-      λ x. codes.0 (sym same ∙ x),
-      λ x. record {
-        accepted = record { formed = formed; accepted = accepted_of (width_of file) (chips_of_file file) found.0 found.1 };
-        within = codes.1 (sym same ∙ x);
-        found = found.0;
-        is = found.1;
-        so = found.2;
-      },
-    )
+pub all_plain : (command : Asked) (bank script : Option (List ℕ)) → ArePlain (stops_of command bank script)
+all_plain (Read name at len) bank script = (
+  file_plain Bank bank,
+  (
+    image_plain (bytes_in bank),
+    (
+      probe_plain (width_of (bytes_in bank)) (chips_of_file (bytes_in bank)),
+      (when_plain (nat_lt (bank_size (chips_of_file (bytes_in bank))) (at + len)) OutOfRange (λ x. omega arith), tt),
+    ),
+  ),
+)
+all_plain (Show name) bank script = (
+  file_plain Bank bank,
+  (
+    image_plain (bytes_in bank),
+    (probe_plain (width_of (bytes_in bank)) (chips_of_file (bytes_in bank)), tt),
+  ),
+)
+all_plain (Script race name script_name) bank script = (
+  file_plain Bank bank,
+  (
+    file_plain ScriptFile script,
+    (
+      image_plain (bytes_in bank),
+      (
+        when_plain (not (is_built_bank (chips_of_file (bytes_in bank)))) NotBuilt (λ x. omega arith),
+        (
+          text_plain (script_of race (bytes_in script)),
+          (
+            probe_plain (width_of (bytes_in bank)) (chips_of_file (bytes_in bank)),
+            (when_plain (offers_locks (width_of (bytes_in bank)) (chips_of_file (bytes_in bank))) NotBuilt (λ x. omega arith), tt),
+          ),
+        ),
+      ),
+    ),
+  ),
+)
+all_plain Drill bank script = (one_plain NotBuilt (λ x. omega arith), tt)
+all_plain Unknown bank script = (one_plain Usage (λ x. omega arith), tt)
 
-file_code : (task : Task) (file : List ℕ) (e : Ending) → IsFileEnding task file e → (e.code ≡ 7 → ⊥) × (e.code ≡ 0 → DoneOn task file e)
-file_code task file e (inl refused) =
-    let low = other e (refused_ending refused.0) refused.2 (refused_other refused.0) in
-    (low.fault, λ x. absurd (low.done x))
-file_code task file e (inr formed) = bank_code task file e formed.0 formed.1
+-- ---- the status of what was done
 
--- The task was done on the bank of the file that was found.
-pub record DoneUnder (task : Task) (told : Option FileMap) (name : List ℕ) (e : Ending) : Type 0 where
-  pub file : List ℕ
-  pub is_found : IsFound told name (Some file)
-  pub on : DoneOn task file e
+pub done_run : (done : Done) (status : ℕ) → status ≡ done_status done → IsRun status
+done_run All status is = inl is
+done_run Halted status is = inr is
 
-sized_code : (task : Task) (told : Option FileMap) (file name : List ℕ) (e : Ending) → IsFound told name (Some file) → IsNamedEnding task (Some file) name e
-    → (e.code ≡ 7 → ⊥) × (e.code ≡ 0 → DoneUnder task told name e)
-sized_code task told file name e is (inl large) =
-    let low = other e (ends 3 too_large) large.1 (record { done = λ x. omega arith; fault = λ x. omega arith }) in
-    (low.fault, λ x. absurd (low.done x))
-sized_code task told file name e is (inr small) =
-    let codes = file_code task file e small.1 in
-    (codes.0, λ x. record { file = file; is_found = is; on = codes.1 x })
-
-named_code : (task : Task) (told : Option FileMap) (found : Option (List ℕ)) (name : List ℕ) (e : Ending) → IsFound told name found → IsNamedEnding task found name e
-    → (e.code ≡ 7 → ⊥) × (e.code ≡ 0 → DoneUnder task told name e)
-named_code task told None name e is ending =
-    let low = other e (ends 8 (absent name)) ending (record { done = λ x. omega arith; fault = λ x. omega arith }) in
-    (low.fault, λ x. absurd (low.done x))
-named_code task told (Some file) name e is ending = sized_code task told file name e is ending
-
--- the same of another task and name, which are these
-pub task_as : (task other_task : Task) (name other_name : List ℕ) (was now : ShelfState) (before after : SinkState) (status : ℕ) → task ≡ other_task → name ≡ other_name
-    → TaskEnds task name was now before after status → TaskEnds other_task other_name was now before after status
-task_as task other_task name other_name was now before after status same same_name so =
-    subst (λ (n : List ℕ). TaskEnds other_task n was now before after status) same_name (subst (λ (t : Task). TaskEnds t name was now before after status) same so)
-
--- ---- status 0
-
-says_zero : (e : Ending) (before after : SinkState) → Says e before after 0 → (e.code ≡ 0) × Appends before.taken e.text after.taken
-says_zero e before after (inl whole) = (sym whole.0, whole.1)
-says_zero e before after (inr (inl fault)) = absurd (let x = fault.0 in omega arith)
-says_zero e before after (inr (inr lacks)) = absurd (let x = lacks.0 in omega arith)
-
--- The task was done, and its text was put.
-pub record DonePut (task : Task) (told : Option FileMap) (name : List ℕ) (before after : SinkState) : Type 0 where
-  pub ending : Ending
-  pub under : DoneUnder task told name ending
-  pub text : Appends before.taken ending.text after.taken
-
-not_zero : (e : Ending) (before after : SinkState) → (e.code ≡ 0 → ⊥) → Says e before after 0 → ⊥
-not_zero e before after low says = low (says_zero e before after says).0
-
-pub done_put : (task : Task) (name : List ℕ) (was now : ShelfState) (before after : SinkState) → TaskEnds task name was now before after 0 → DonePut task was.files name before after
-done_put task name was now before after (inl so) =
-    let zero = says_zero so.ending before after so.says in
-    record { ending = so.ending; under = (named_code task was.files so.is.found name so.ending so.is.is_found so.is.is).1 zero.0; text = zero.1 }
-done_put task name was now before after (inr (inl fault)) = absurd (not_zero (ends 7 (read_fault name)) before after (λ x. omega arith) fault.1)
-done_put task name was now before after (inr (inr lacks)) = absurd (not_zero (ends 9 no_memory) before after (λ x. omega arith) lacks)
-
-pub prints : (name : List ℕ) (at len : ℕ) (was now : ShelfState) (before after : SinkState) → TaskEnds (Read at len) name was now before after 0
-    → PrintsImage was.files name at len before after
-prints name at len was now before after so =
-    let put = done_put (Read at len) name was now before after so in
-    let on = put.under.on in
-    let text = on.so ∙ range_text (device_of put.under.file) (chips_of_file put.under.file) at len on.within in
-    record {
-      file = put.under.file;
-      is_found = put.under.is_found;
-      accepted = on.accepted;
-      within = on.within;
-      text = subst (λ (e : Ending). Appends before.taken e.text after.taken) text put.text;
-    }
-
-pub shows : (name : List ℕ) (was now : ShelfState) (before after : SinkState) → TaskEnds Show name was now before after 0 → ShowsImage was.files name before after
-shows name was now before after so =
-    let put = done_put Show name was now before after so in
-    let on = put.under.on in
-    record {
-      file = put.under.file;
-      is_found = put.under.is_found;
-      accepted = on.accepted;
-      found = on.found;
-      is = on.is;
-      text = subst (λ (e : Ending). Appends before.taken e.text after.taken) on.so put.text;
-    }
-
--- ---- status 7
-
-says_seven : (e : Ending) (before after : SinkState) → (e.code ≡ 7 → ⊥) → Says e before after 7 → Rose before.faults after.faults
-says_seven e before after low (inl whole) = absurd (low (sym whole.0))
-says_seven e before after low (inr (inl fault)) = fault.1
-says_seven e before after low (inr (inr lacks)) = absurd (let x = lacks.0 in omega arith)
-
-fault_of : (task : Task) (name : List ℕ) (was now : ShelfState) (before after : SinkState) → TaskEnds task name was now before after 7
-    → Rose was.faults now.faults ⊎ Rose before.faults after.faults
-fault_of task name was now before after (inl so) = inr (says_seven so.ending before after (named_code task was.files so.is.found name so.ending so.is.is_found so.is.is).0 so.says)
-fault_of task name was now before after (inr (inl fault)) = inl fault.0
-fault_of task name was now before after (inr (inr lacks)) = inr (says_seven (ends 9 no_memory) before after (λ x. omega arith) lacks)
-
-pub task_seven : (task : Task) (name : List ℕ) (was now : ShelfState) (status : ℕ) (before after : SinkState) → TaskEnds task name was now before after status → status ≡ 7
-    → Rose was.faults now.faults ⊎ Rose before.faults after.faults
-task_seven task name was now status before after so is = fault_of task name was now before after (subst (λ (k : ℕ). TaskEnds task name was now before after k) is so)
-
-pub says_fault : (e : Ending) (before after : SinkState) (status f g : ℕ) → (e.code ≡ 7 → ⊥) → Says e before after status → status ≡ 7 → Rose f g ⊎ Rose before.faults after.faults
-says_fault e before after status f g low says is = inr (says_seven e before after low (subst (λ (k : ℕ). Says e before after k) is says))
-
--- ---- what can be answered is
-
-task_within : (task : Task) (width : ℕ) (device : Device) (chips : List ChipState) (found : Found) → IsWithin task (bank_size chips)
-    → (task_ending task width device chips found).code ≡ 0
-task_within (Read at len) width device chips found within = ap (λ (e : Ending). e.code) (range_text device chips at len within)
-task_within Show width device chips found within = refl
-
-bank_answers : (task : Task) (file : List ℕ) (e : Ending) → CanAnswer task file → IsBankEnding task (width_of file) (device_of file) (chips_of_file file) e → e.code ≡ 0
-bank_answers task file e can (inl refused) = absurd (let x = can.accepted.accepted in let y = refused.1 in cc)
-bank_answers task file e can (inr found) =
-    ap (λ (y : Ending). y.code) found.2 ∙ task_within task (width_of file) (device_of file) (chips_of_file file) found.0 can.within
-
-file_answers : (task : Task) (file : List ℕ) (e : Ending) → CanAnswer task file → IsFileEnding task file e → e.code ≡ 0
-file_answers task file e can (inl refused) = absurd (let x = can.accepted.formed in let y = refused.1 in cc)
-file_answers task file e can (inr formed) = bank_answers task file e can formed.1
-
-sized_answers : (task : Task) (file name : List ℕ) (e : Ending) → length file ≤ 2 ^ 30 → CanAnswer task file → IsNamedEnding task (Some file) name e → e.code ≡ 0
-sized_answers task file name e small can (inl large) = absurd (let x = large.0 in omega arith)
-sized_answers task file name e small can (inr there) = file_answers task file e can there.1
-
-done_says : (was now : ShelfState) (before after : SinkState) (status : ℕ) (e : Ending) → (e.code ≡ 0) ⊎ (e.code ≡ 9) → Says e before after status → IsDone was now before after status
-done_says was now before after status e (inl zero_is) (inl whole) = inl (whole.0 ∙ zero_is)
-done_says was now before after status e (inr nine_is) (inl whole) = inr (inr (whole.0 ∙ nine_is))
-done_says was now before after status e code (inr (inl fault)) = inr (inl (fault.0, inr fault.1))
-done_says was now before after status e code (inr (inr lacks)) = inr (inr lacks.0)
-
-done_fault : (was now : ShelfState) (before after : SinkState) (status : ℕ) (text : List ℕ) → Rose was.faults now.faults → Says (ends 7 text) before after status → IsDone was now before after status
-done_fault was now before after status text rose (inl whole) = inr (inl (whole.0, inl rose))
-done_fault was now before after status text rose (inr (inl fault)) = inr (inl (fault.0, inl rose))
-done_fault was now before after status text rose (inr (inr lacks)) = inr (inr lacks.0)
-
--- a task on a file that can be answered is done
-pub task_done : (task : Task) (files : FileMap) (name file : List ℕ) (was now : ShelfState) (status : ℕ) (before after : SinkState) → was.files ≡ Some files → TaskEnds task name was now before after status
-    → files name ≡ Some file → length file ≤ 2 ^ 30 → CanAnswer task file → IsDone was now before after status
-task_done task files name file was now status before after told (inl so) is small can =
-    let there : IsFound (Some files) name so.is.found = subst (λ (o : Option FileMap). IsFound o name so.is.found) told so.is.is_found in
-    let same : so.is.found ≡ Some file = sym there ∙ is in
-    let ending = subst (λ (found : Option (List ℕ)). IsNamedEnding task found name so.ending) same so.is.is in
-    done_says was now before after status so.ending (inl (sized_answers task file name so.ending small can ending)) so.says
-task_done task files name file was now status before after told (inr (inl fault)) is small can = done_fault was now before after status (read_fault name) fault.0 fault.1
-task_done task files name file was now status before after told (inr (inr lacks)) is small can = done_says was now before after status (ends 9 no_memory) (inr refl) lacks
+pub not_either : (status : ℕ) → status ≢ 0 → status ≢ 6 → IsRun status → ⊥
+not_either status zero_not six_not (inl zero_is) = zero_not zero_is
+not_either status zero_not six_not (inr six_is) = six_not six_is

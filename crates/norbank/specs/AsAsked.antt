@@ -1,32 +1,49 @@
--- How each command ends, but for words that are no form, and for a race.
-use Rattle.std.specs.Prelude.{◌≡◌, ◌≢◌, ◌⊎◌, ◌≤◌, ◌^◌, ℕ, List, length, String, false, Some}
-use Rattle.std.specs.declared.alloc.Global.{Global}
+-- How each command ends, read off its status.
+use Rattle.std.specs.Prelude.{◌≡◌, ◌≢◌, ◌⊎◌, ℕ, List, Bool, Some, None}
 use Rattle.nor_io.specs.Files.{ShelfState, SinkState, FileMap, Rose}
-use Rattle.norbank.specs.Answering.{CanAnswer, IsDone}
-use Rattle.norbank.specs.Endings.{ends}
-use Rattle.norbank.specs.Open.{PrintsImage, ShowsImage}
-use Rattle.norbank.specs.Ran.{EndsScript}
-use Rattle.norbank.specs.Says.{Says, TaskEnds}
-use Rattle.norbank.specs.Text.{not_built}
-use Rattle.norbank.specs.Words.{word_at, asked}
-use Rattle.norbank.specs.declared.words.Command.TheVariants.{OfImage, Run, Unbuilt}
-use Rattle.norbank.specs.declared.words.Task.{Task}
-use Rattle.norbank.specs.declared.words.Task.TheVariants.{Read, Show}
+use Rattle.norbank.specs.Does.{Ends}
+use Rattle.norbank.specs.Done.{PrintsImage, ShowsImage, RanImage, MayHaltImage, IsRun}
+use Rattle.norbank.specs.Endings.{Says, status_of, all_done, bank_halted, fault_told, lacks_memory}
+use Rattle.norbank.specs.Parts.{PutsPart}
+use Rattle.norbank.specs.Stops.{stop_of}
+use Rattle.norbank.specs.Text.{usage, not_built}
+use Rattle.norbank.specs.Words.{Asked, Read, Show, Script, Drill, Unknown, name_of}
+use Rattle.norbank.specs.declared.stop.File.TheVariants.{Bank, Script as ScriptFile}
+use Rattle.norbank.specs.declared.stop.Stop.TheVariants.{Usage, NotBuilt}
 
--- A task on an image ends as the words and the file under the name say, each status with its text. With status 0 the bytes of
--- the image have been printed, or what the bank is. What can be answered is, unless a fault or want of memory comes between.
-pub record EndsTask (task : Task) (name : List ℕ) (was now : ShelfState) (before after : SinkState) (status : ℕ) : Type 0 where
-  pub ends : TaskEnds task name was now before after status
-  pub printed : (at len : ℕ) → task ≡ Read at len → status ≡ 0 → PrintsImage was.files name at len before after
-  pub shown : task ≡ Show → status ≡ 0 → ShowsImage was.files name before after
-  pub complete : (files : FileMap) (file : List ℕ) → was.files ≡ Some files → files name ≡ Some file → length file ≤ 2 ^ 30
-      → CanAnswer task file → IsDone was now before after status
+abbrev pub IsScript : Asked → Type 0
+IsScript (Script race image name) = Unit {0}
+IsScript _ = ⊥
 
--- The command ends as it is asked for. Status 7 comes only where a count of faults rose, and the files change only with status
--- 0 or 6.
-pub record EndsAsAsked (words : List (String Global)) (was now : ShelfState) (before after : SinkState) (status : ℕ) : Type 0 where
-  pub unbuilt : asked words ≡ Unbuilt → Says (ends 11 not_built) before after status
-  pub task : (task : Task) → asked words ≡ OfImage task → EndsTask task (word_at words 1) was now before after status
-  pub run : asked words ≡ Run → EndsScript false (word_at words 1) (word_at words 2) was now before after status
-  pub fault : status ≡ 7 → Rose was.faults now.faults ⊎ Rose before.faults after.faults
-  pub kept : status ≢ 0 → status ≢ 6 → now.files ≡ was.files
+-- only a script's bank halts
+abbrev pub EndsDone : Asked → ℕ → Type 0
+EndsDone command status = (status ≡ all_done) ⊎ ((status ≡ bank_halted) × IsScript command)
+
+-- All was done, or a count of faults rose, or memory ran out.
+abbrev pub IsDone : Asked → (was now : ShelfState) → (before after : SinkState) → ℕ → Type 0
+IsDone command was now before after status =
+    EndsDone command status
+    ⊎ (((status ≡ fault_told) × (Rose was.faults now.faults ⊎ Rose before.faults after.faults)) ⊎ (status ≡ lacks_memory))
+
+-- The command ends as it is asked for, each status with its text. Status 0 means that all was done, and 6 that the
+-- bank halted in it. Where nothing is wrong all is done, unless a fault or want of memory comes between. Status 7
+-- comes only where a count of faults rose. Where it wasn't done, the sink has taken a first part of what would have
+-- been put, and why it wasn't. Only a script changes files, and only with status 0 or 6.
+pub record EndsAsAsked (command : Asked) (was now : ShelfState) (before after : SinkState) (status : ℕ) : Type 0 where
+  pub ends : Ends command was now before after status
+  pub usage : command ≡ Unknown → Says (status_of Usage) usage before after status
+  pub unbuilt : command ≡ Drill → Says (status_of NotBuilt) not_built before after status
+  pub printed : (image : List ℕ) (at len : ℕ) → command ≡ Read image at len → status ≡ all_done
+      → PrintsImage was.files image at len before after
+  pub shown : (image : List ℕ) → command ≡ Show image → status ≡ all_done → ShowsImage was.files image before after
+  pub ran : (race : Bool) (image name : List ℕ) → command ≡ Script race image name → IsRun status
+      → RanImage race image name was now before after status
+  pub halted : (race : Bool) (image name : List ℕ) → command ≡ Script race image name → status ≡ bank_halted
+      → MayHaltImage race image name was.files
+  pub part : status ≢ all_done → status ≢ bank_halted → PutsPart command was.files before after status
+  pub complete : (files : FileMap) → was.files ≡ Some files
+      → stop_of command (files (name_of command Bank)) (files (name_of command ScriptFile)) ≡ None
+      → IsDone command was now before after status
+  pub fault : status ≡ fault_told → Rose was.faults now.faults ⊎ Rose before.faults after.faults
+  pub kept : status ≢ all_done → status ≢ bank_halted → now.files ≡ was.files
+  pub same : (IsScript command → ⊥) → now.files ≡ was.files

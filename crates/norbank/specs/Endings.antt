@@ -1,76 +1,119 @@
--- How a command ends, by its words and the file that it reads.
-use Rattle.std.specs.Prelude.{◌≡◌, ◌≤◌, ◌<◌, ◌⊎◌, ◌+◌, ◌^◌, ℕ, zero, suc, List, [], ◌∷◌, ◌++◌, length, Option, Some, None, nat_lt, if◌then◌else◌, codes, decimal}
-use Rattle.nor_cell.specs.Chip.{ChipState}
-use Rattle.nor_cell.specs.declared.device.Device.{Device}
-use Rattle.nor_bus.specs.Bus.{bank_bytes, bank_size}
-use Rattle.nor_probe.specs.Probed.{refusal, IsFoundOn}
-use Rattle.nor_probe.specs.declared.error.ProbeError.{ProbeError}
-use Rattle.nor_probe.specs.declared.probing.Found.{Found}
-use Rattle.nor_show.specs.Lines.{shown_lines}
-use Rattle.nor_image.specs.Image.{image_refusal, device_of, width_of, lanes_of_file, chip_of_lane}
-use Rattle.nor_image.specs.declared.error.ImageError.{ImageError}
-use Rattle.nor_image.specs.declared.error.ImageError.TheVariants.{BadMagic, BadHeader, Truncated, Trailing, SizeDiffers, NoMemory}
-use Rattle.norbank.specs.Text.{hex_line, no_memory, out_of_range, too_large, absent, line_of, probe_text}
-use Rattle.norbank.specs.declared.words.Task.{Task}
-use Rattle.norbank.specs.declared.words.Task.TheVariants.{Read, Show}
+-- How a command ends: the status and the text of what stopped it, or the status of what was done.
+use Rattle.std.specs.Prelude.{◌≡◌, ◌⊎◌, ℕ, List, [], Bool, true, false, Result, Ok, Err}
+use Rattle.nor_image.specs.declared.error.ImageError.TheVariants.{NoMemory as NoImageMemory}
+use Rattle.nor_io.specs.Files.{SinkState, Rose, Appends, AppendsPart}
+use Rattle.nor_io.specs.declared.shelf.LoadError.{LoadError}
+use Rattle.nor_io.specs.declared.shelf.LoadError.TheVariants.{Absent as NoFile, ReadFault as LoadFault, TooLarge as LargeFile, NoMemory as NoLoadMemory}
+use Rattle.nor_io.specs.declared.shelf.SaveError.{SaveError}
+use Rattle.nor_io.specs.declared.shelf.SaveError.TheVariants.{WriteFault as SaveFault, NoMemory as NoSaveMemory}
+use Rattle.nor_io.specs.declared.sink.SinkError.TheVariants.{Fault, NoMemory as NoSinkMemory}
+use Rattle.nor_run.specs.declared.error.RunError.{RunError}
+use Rattle.nor_run.specs.declared.error.RunError.TheVariants.{Probe, NotBuilt as NoRun, NoMemory as NoRunMemory, Put}
+use Rattle.nor_script.specs.declared.error.ScriptError.TheVariants.{NoMemory as NoScriptMemory}
+use Rattle.norbank.specs.Text.{usage, not_built, no_memory, out_of_range, absent, read_fault, write_fault, too_large, image_text, script_text, probe_text}
+use Rattle.norbank.specs.Words.{Asked, name_of}
+use Rattle.norbank.specs.declared.stop.Done.{Done}
+use Rattle.norbank.specs.declared.stop.Done.TheVariants.{All, Halted}
+use Rattle.norbank.specs.declared.stop.File.{File}
+use Rattle.norbank.specs.declared.stop.File.TheVariants.{Bank, Script}
+use Rattle.norbank.specs.declared.stop.Stop.{Stop}
+use Rattle.norbank.specs.declared.stop.Stop.TheVariants.{Usage, BadImage, BadScript, Unfound, Absent, TooLarge, ReadFault, WriteFault, OutOfRange, NotBuilt, NoMemory, Output}
 
--- a status, and the text that is put with it
-pub record Ending : Type 0 where
-  pub code : ℕ
-  pub text : List ℕ
+-- ---- the table
 
-abbrev pub ends : ℕ → List ℕ → Ending
-ends code text = record { code = code; text = text }
+-- the status of what was done
+abbrev pub done_status : Done → ℕ
+done_status All = 0
+done_status Halted = 6
 
--- a file that no bank is made of
-abbrev pub refused_ending : ImageError → Ending
-refused_ending BadMagic = ends 3 (codes "image: bad magic\n")
-refused_ending (BadHeader at) = ends 3 (line_of (codes "image: bad header at ") (decimal at))
-refused_ending (Truncated at) = ends 3 (line_of (codes "image: truncated at ") (decimal at))
-refused_ending (Trailing at) = ends 3 (line_of (codes "image: trailing at ") (decimal at))
-refused_ending (SizeDiffers lane) = ends 3 (line_of (codes "image: size differs in lane ") (decimal lane))
-refused_ending NoMemory = ends 9 no_memory
+-- the status of what stops a command
+abbrev pub status_of : Stop → ℕ
+status_of Usage = 2
+status_of (BadImage NoImageMemory) = 9
+status_of (BadImage error) = 3
+status_of (BadScript NoScriptMemory) = 9
+status_of (BadScript error) = 4
+status_of (Unfound error) = 5
+status_of (Absent file) = 8
+status_of (TooLarge Bank) = 3
+status_of (TooLarge Script) = 4
+status_of (ReadFault file) = 7
+status_of WriteFault = 7
+status_of OutOfRange = 10
+status_of NotBuilt = 11
+status_of NoMemory = 9
+status_of (Output Fault) = 7
+status_of (Output NoSinkMemory) = 9
 
--- a bank that probing refuses
-abbrev pub unfound_ending : ProbeError → Ending
-unfound_ending error = ends 5 (line_of (codes "probe: ") (probe_text error))
+-- those that are spoken of by themselves
+abbrev pub all_done : ℕ
+all_done = done_status All
 
--- bytes of a bank
-abbrev pub range_ending : Device → List ChipState → ℕ → ℕ → Ending
-range_ending device chips at len =
-    if nat_lt (bank_size chips) (at + len) then ends 10 out_of_range else ends 0 (hex_line (bank_bytes device chips at len))
+abbrev pub bank_halted : ℕ
+bank_halted = done_status Halted
 
--- what a bank is
-abbrev pub show_ending : ℕ → Found → Ending
-show_ending width found = ends 0 (shown_lines width found.geometry found.query found.map)
+abbrev pub fault_told : ℕ
+fault_told = status_of (Output Fault)
 
--- what is asked of a bank of these chips, on a bus of so many bytes, that was found
-abbrev pub task_ending : Task → ℕ → Device → List ChipState → Found → Ending
-task_ending (Read at len) width device chips found = range_ending device chips at len
-task_ending Show width device chips found = show_ending width found
+abbrev pub lacks_memory : ℕ
+lacks_memory = status_of NoMemory
 
--- A task on a bank ends with why probing refuses the bank, or on what it finds.
-abbrev pub IsBankEnding : Task → ℕ → Device → List ChipState → Ending → Type 0
-IsBankEnding task width device chips ending =
-    ((error : ProbeError) × (refusal width chips ≡ Some error) × (ending ≡ unfound_ending error))
-    ⊎ ((found : Found) × IsFoundOn width chips found × (ending ≡ task_ending task width device chips found))
+-- its text
+abbrev pub text_of : Asked → Stop → List ℕ
+text_of command Usage = usage
+text_of command (BadImage error) = image_text error
+text_of command (BadScript error) = script_text error
+text_of command (Unfound error) = probe_text error
+text_of command (Absent file) = absent (name_of command file)
+text_of command (TooLarge file) = too_large file
+text_of command (ReadFault file) = read_fault (name_of command file)
+text_of command WriteFault = write_fault (name_of command Bank)
+text_of command OutOfRange = out_of_range
+text_of command NotBuilt = not_built
+text_of command NoMemory = no_memory
+text_of command (Output error) = []
 
--- the chips of the first n lanes of a file
-abbrev pub chips_before : List ℕ → ℕ → List ChipState
-chips_before file zero = []
-chips_before file (suc n) = chips_before file n ++ chip_of_lane file n ∷ []
+-- ---- what stops a command where a call fails
 
-abbrev pub chips_of_file : List ℕ → List ChipState
-chips_of_file file = chips_before file (lanes_of_file file)
+abbrev pub file_failure : File → LoadError → Stop
+file_failure file NoFile = Absent file
+file_failure file LoadFault = ReadFault file
+file_failure file LargeFile = TooLarge file
+file_failure file NoLoadMemory = NoMemory
 
--- A task on a file ends with why no bank is made of it, or as on the bank that it stands for.
-abbrev pub IsFileEnding : Task → List ℕ → Ending → Type 0
-IsFileEnding task file ending =
-    ((error : ImageError) × (image_refusal file ≡ Some error) × (ending ≡ refused_ending error))
-    ⊎ ((image_refusal file ≡ None) × IsBankEnding task (width_of file) (device_of file) (chips_of_file file) ending)
+abbrev pub save_failure : SaveError → Stop
+save_failure SaveFault = WriteFault
+save_failure NoSaveMemory = NoMemory
 
--- A task on what is under a name: no file, one of more than 2 ^ 30 bytes, or another.
-abbrev pub IsNamedEnding : Task → Option (List ℕ) → List ℕ → Ending → Type 0
-IsNamedEnding task None name ending = ending ≡ ends 8 (absent name)
-IsNamedEnding task (Some file) name ending =
-    ((2 ^ 30 < length file) × (ending ≡ ends 3 too_large)) ⊎ ((length file ≤ 2 ^ 30) × IsFileEnding task file ending)
+abbrev pub run_failure : RunError → Stop
+run_failure (Probe error) = Unfound error
+run_failure NoRun = NotBuilt
+run_failure NoRunMemory = NoMemory
+run_failure (Put error) = Output error
+
+-- what was done where a script was run
+abbrev pub done_of : Bool → Done
+done_of true = Halted
+done_of false = All
+
+-- ---- the last text
+
+-- A text was put with a status; or the output failed, which its count tells, or lacked memory, and then a first part
+-- was.
+abbrev pub Says : ℕ → List ℕ → (before after : SinkState) → ℕ → Type 0
+Says code text before after status =
+    ((status ≡ code) × Appends before.taken text after.taken)
+    ⊎ (((status ≡ fault_told) × Rose before.faults after.faults × AppendsPart before.taken text after.taken)
+    ⊎ ((status ≡ lacks_memory) × AppendsPart before.taken text after.taken))
+
+-- only why a bank isn't found takes memory to tell
+abbrev pub TakesMemory : Stop → Type 0
+TakesMemory (Unfound error) = Unit {0}
+TakesMemory _ = ⊥
+
+-- What stopped the command was told, or want of memory in its place. Where all was done nothing more was put.
+abbrev pub Tells : Asked → Result Done Stop → (before after : SinkState) → ℕ → Type 0
+Tells command (Ok done) before after status = (status ≡ done_status done) × (after ≡ before)
+Tells command (Err stop) before after status =
+    Says (status_of stop) (text_of command stop) before after status
+    ⊎ (TakesMemory stop × Says lacks_memory no_memory before after status)

@@ -1,11 +1,11 @@
-pub mod Answering
 pub mod AsAsked
+pub mod Does
+pub mod Done
 pub mod Endings
-pub mod Jobs
 pub mod Open
-pub mod Ran
-pub mod Runs
-pub mod Says
+pub mod Opened
+pub mod Parts
 pub mod Status
+pub mod Stops
 pub mod Text
 pub mod Words

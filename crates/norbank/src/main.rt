@@ -2,23 +2,25 @@
 //!
 //! `main` hands the words, the files and the output to `norbank`, which does the work and carries the
 //! promises: how each command ends, with which text and status, by the words and the bytes of the
-//! files, as `specs/AsAsked.antt` and `specs/Ran.antt` say. It races a script itself and hands every other
-//! command to `quiet`, which waits for nobody. `words` reads the words, `loading` makes a bank of the file,
-//! `answering` probes the bank and does what is asked of it, `printing` puts bytes as text; `jobs` takes
-//! the bank and the script of a run or a race, `running` runs or races them and saves the bank, `script`
-//! says what is wrong with a script. It stands on nor_image for the file, on nor_probe, nor_show and nor_bank for the bank, on
-//! nor_script, nor_run and nor_race for scripts, and on nor_io for files and output.
+//! files, as `specs/Does.antt` and `specs/AsAsked.antt` say. It races a script itself and hands every other
+//! command to `quiet`, which waits for nobody. `words` reads the words. Each command has a body of its own in
+//! `read`, `show` and `run`, which ends with what was done or with the first thing that stopped it: `stop`
+//! has these things and the status of each, `specs/Stops.antt` their order. They share `open`, which loads
+//! files and makes banks of them, and `jobs`, which takes the bank and the script of a run or a race. `telling`
+//! puts the text of what stopped a command. It stands on nor_image for the file, on nor_probe, nor_show and
+//! nor_bank for the bank, on nor_script, nor_run and nor_race for scripts, and on nor_io for files and output.
 #![tactic(auto)]
 
-mod answering;
 mod jobs;
-mod loading;
+mod open;
 mod printing;
 mod program;
 mod quiet;
-mod running;
-mod script;
-mod status;
+mod read;
+mod run;
+mod show;
+mod stop;
+mod telling;
 #[cfg(test)]
 mod tests;
 mod words;
@@ -44,9 +46,7 @@ fn main(rt: HostRuntime) -> ExitCode {
     let mut out = StdSink::new(io::writer(&rt));
     let status = match words_of(&rt) {
         Ok(words) => program::norbank(&rt, alloc, &words, &mut shelf, &mut out, &OpenGate),
-        Err(error) if error.kind() == ErrorKind::OutOfMemory => {
-            status::say(9, b"no memory\n", &mut out)
-        }
+        Err(error) if error.kind() == ErrorKind::OutOfMemory => { telling::say_no_memory(&mut out) }
         // A word that isn't UTF-8 matches no form.
         Err(_) => program::norbank(&rt, alloc, &[], &mut shelf, &mut out, &OpenGate),
     };

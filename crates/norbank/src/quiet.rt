@@ -1,39 +1,36 @@
 //! All commands but the race.
-ghost use Rattle.std.specs.Prelude.{◌≡◌, ◌≢◌, ◌⊎◌};
+ghost use Rattle.std.specs.Prelude.{◌≤◌};
 ghost use Rattle.norbank.specs.AsAsked.{EndsAsAsked};
-ghost use Rattle.norbank.specs.Endings.{ends};
-ghost use Rattle.norbank.specs.Says.{Says, TaskEnds};
-ghost use Rattle.norbank.specs.Text.{usage};
-ghost use Rattle.norbank.specs.Words.{asked};
+ghost use Rattle.norbank.specs.Does.{Does};
+ghost use Rattle.norbank.specs.Words.{asked, asked_by, quietly};
 
-use crate::loading::answer_file;
-use crate::running::run;
-use crate::status::{Status, say, say_line};
-use crate::words::{Command, Task, command_of, word};
-use nor_io::{LoadError, Shelf, Sink};
+use crate::read::read;
+use crate::run::run;
+use crate::show::show;
+use crate::stop::{Done, Stop};
+use crate::telling::{Status, tell};
+use crate::words::{Command, command_of};
+use nor_io::{Shelf, Sink};
 use std::alloc::Global;
 
-const USAGE: &[u8] =
-    b"usage: norbank read IMAGE ADDR LEN, show IMAGE, run IMAGE SCRIPT, race IMAGE SCRIPT, drill N\n";
-
-// Does a task on the bank that the file under a name stands for.
-fn answer_named<H: Shelf, K: Sink>(
+/// Does what a command asks for. The words of `race` are no form here.
+pub fn obey<H: Shelf, K: Sink>(
     alloc: Global,
-    name: &str,
-    task: Task,
+    command: Command,
     shelf: &mut H,
     out: &mut K,
-) -> Status
-    ensures ends { TaskEnds task name.now (H.state shelf.old) (H.state shelf.new)
-        (K.state out.old) (K.state out.new) result.code }
-    ensures same { (H.state shelf.new).files ≡ (H.state shelf.old).files }
+) -> Result<Done, Stop>
+    ensures does { Does (quietly (asked_by command.entry)) (H.state shelf.old) (H.state shelf.new)
+        (K.state out.old) (K.state out.new) result }
+    ensures later { (K.state out.old).faults ≤ (K.state out.new).faults }
 {
-    match shelf.load(alloc, name) {
-        Ok(file) => answer_file(alloc, &file, task, out),
-        Err(LoadError::Absent) => say_line(8, b"absent ", name.as_bytes(), out),
-        Err(LoadError::ReadFault) => say_line(7, b"read fault ", name.as_bytes(), out),
-        Err(LoadError::TooLarge) => say(3, b"image: too large\n", out),
-        Err(LoadError::NoMemory) => say(9, b"no memory\n", out),
+    match command {
+        Command::Read { image, at, len } => read(alloc, image, at, len, shelf, out),
+        Command::Show { image } => show(alloc, image, shelf, out),
+        Command::Run { image, script } => run(alloc, image, script, shelf, out),
+        Command::Drill => Err(Stop::NotBuilt),
+        Command::Race { .. } => Err(Stop::Usage),
+        Command::Unknown => Err(Stop::Usage),
     }
 }
 
@@ -49,19 +46,10 @@ pub fn quiet<H: Shelf, K: Sink>(
     shelf: &mut H,
     out: &mut K,
 ) -> Status
-    ensures ends { EndsAsAsked words.now (H.state shelf.old) (H.state shelf.new)
+    ensures { EndsAsAsked (quietly (asked words.now)) (H.state shelf.old) (H.state shelf.new)
         (K.state out.old) (K.state out.new) result.code }
-    ensures usage { (asked words.now ≡ Command.Unknown) ⊎ (asked words.now ≡ Command.Race)
-        → Says (ends 2 usage) (K.state out.old) (K.state out.new) result.code }
-
-    // Only a script that is run may change files.
-    ensures same { asked words.now ≢ Command.Run
-        → (H.state shelf.new).files ≡ (H.state shelf.old).files }
 {
-    match command_of(words) {
-        Command::OfImage(task) => answer_named(alloc, word(words, 1), task, shelf, out),
-        Command::Run => run(alloc, word(words, 1), word(words, 2), shelf, out),
-        Command::Unbuilt => say(11, b"not built\n", out),
-        Command::Race | Command::Unknown => say(2, USAGE, out),
-    }
+    let command = command_of(words);
+    let ended = obey(alloc, command, shelf, out);
+    tell(alloc, command, ended, out)
 }

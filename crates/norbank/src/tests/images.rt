@@ -39,7 +39,7 @@ fn without(table: Table, suspend: usize, locks: usize) -> Table {
     table
 }
 
-/// What the cells of a chip hold.
+// What the cells of a chip hold.
 #[derive(Clone, Copy)]
 enum Cells {
     Rising,
@@ -47,10 +47,32 @@ enum Cells {
     Ones,
 }
 
-/// A bank: the bus width, the device's code and the lanes, its tables and the bytes of each chip, and
-/// what the cells of lane 1 and of the others hold.
+/// The banks of the tests. Chips have 8 KiB whose cells rise, where nothing else is said.
 #[derive(Clone, Copy)]
-pub struct Image {
+pub enum Bank {
+    OneX16,
+    FourX16,
+    OneInByteMode,
+    FourAmd,
+    OneAmdInByteMode,
+    /// The cells of lane 1 fall.
+    TwoX8,
+    /// A chip of 4 KiB.
+    TopBoot,
+    /// One chip of set 0001 without suspend and locks.
+    OnePlain,
+    /// Two chips of set 0001 in bytes, without suspend and locks. The cells of lane 1 fall.
+    TwoPlainX8,
+    /// Four chips of set 0002 without suspend and locks, all ones.
+    FourPlainAmd,
+    /// One chip of set 0002 in byte mode, without suspend and locks, all ones.
+    OnePlainAmdInByteMode,
+}
+
+// The bus width, the device's code and the lanes, its tables and the bytes of each chip, and what the cells of
+// lane 1 and of the others hold.
+#[derive(Clone, Copy)]
+struct Image {
     width: u8,
     device: u8,
     lanes: u8,
@@ -60,83 +82,46 @@ pub struct Image {
     lane_1: Cells,
 }
 
-// A bank of chips of 8 KiB whose cells rise.
-fn of_chips(width: u8, device: u8, lanes: u8, table: Table) -> Image {
+// A bank of chips of 8 KiB with these cells.
+fn of_chips(width: u8, device: u8, lanes: u8, table: Table, cells: Cells) -> Image {
     Image {
         width,
         device,
         lanes,
         table,
         size: 8192,
-        cells: Cells::Rising,
-        lane_1: Cells::Rising,
+        cells,
+        lane_1: cells,
     }
 }
 
-pub fn one_x16() -> Image {
-    of_chips(2, 1, 1, INTEL)
-}
-
-pub fn four_x16() -> Image {
-    of_chips(8, 1, 4, INTEL)
-}
-
-pub fn one_in_byte_mode() -> Image {
-    of_chips(1, 2, 1, INTEL)
-}
-
-pub fn four_amd_x16() -> Image {
-    of_chips(8, 1, 4, AMD)
-}
-
-pub fn one_amd_in_byte_mode() -> Image {
-    of_chips(1, 2, 1, AMD)
-}
-
-pub fn two_x8() -> Image {
+// Two chips in bytes, of which the second falls.
+fn two_x8(table: Table) -> Image {
     Image {
         lane_1: Cells::Falling,
-        ..of_chips(2, 0, 2, INTEL)
+        ..of_chips(2, 0, 2, table, Cells::Rising)
     }
 }
 
-pub fn top_boot() -> Image {
-    Image {
-        size: 4096,
-        ..of_chips(2, 1, 1, TOP)
+fn image_of(bank: Bank) -> Image {
+    let plain = without(INTEL, 0x36, 0x36);
+    let plain_amd = without(AMD, 0x37, 0x3A);
+    match bank {
+        Bank::OneX16 => of_chips(2, 1, 1, INTEL, Cells::Rising),
+        Bank::FourX16 => of_chips(8, 1, 4, INTEL, Cells::Rising),
+        Bank::OneInByteMode => of_chips(1, 2, 1, INTEL, Cells::Rising),
+        Bank::FourAmd => of_chips(8, 1, 4, AMD, Cells::Rising),
+        Bank::OneAmdInByteMode => of_chips(1, 2, 1, AMD, Cells::Rising),
+        Bank::TwoX8 => two_x8(INTEL),
+        Bank::TopBoot => Image {
+            size: 4096,
+            ..of_chips(2, 1, 1, TOP, Cells::Rising)
+        },
+        Bank::OnePlain => of_chips(2, 1, 1, plain, Cells::Rising),
+        Bank::TwoPlainX8 => two_x8(plain),
+        Bank::FourPlainAmd => of_chips(8, 1, 4, plain_amd, Cells::Ones),
+        Bank::OnePlainAmdInByteMode => of_chips(1, 2, 1, plain_amd, Cells::Ones),
     }
-}
-
-// The same with all cells ones.
-fn all_ones(image: Image) -> Image {
-    Image {
-        cells: Cells::Ones,
-        lane_1: Cells::Ones,
-        ..image
-    }
-}
-
-/// One chip of set 0001 without suspend and locks.
-pub fn one_plain() -> Image {
-    of_chips(2, 1, 1, without(INTEL, 0x36, 0x36))
-}
-
-/// Two chips of set 0001 in bytes, without suspend and locks.
-pub fn two_plain_x8() -> Image {
-    Image {
-        lane_1: Cells::Falling,
-        ..of_chips(2, 0, 2, without(INTEL, 0x36, 0x36))
-    }
-}
-
-/// Four chips of set 0002 without suspend and locks, all ones.
-pub fn four_plain_amd() -> Image {
-    all_ones(of_chips(8, 1, 4, without(AMD, 0x37, 0x3A)))
-}
-
-/// One chip of set 0002 in byte mode, without suspend and locks, all ones.
-pub fn one_plain_amd_in_byte_mode() -> Image {
-    all_ones(of_chips(1, 2, 1, without(AMD, 0x37, 0x3A)))
 }
 
 fn push_zeros(file: &mut Vec<u8>, count: u32) -> Result<(), AllocError> {
@@ -177,7 +162,8 @@ fn push_lane(
     push_cells(file, image.size, cells)
 }
 
-fn file_in(alloc: Global, image: Image, version: u8) -> Result<Vec<u8>, AllocError> {
+fn file_in(alloc: Global, bank: Bank, version: u8) -> Result<Vec<u8>, AllocError> {
+    let image = image_of(bank);
     let mut file = Vec::new(alloc);
     file.extend_from_slice(b"NORBANK")?;
     file.extend_from_slice(&[version, image.width, image.device, image.lanes, 0])?;
@@ -188,14 +174,28 @@ fn file_in(alloc: Global, image: Image, version: u8) -> Result<Vec<u8>, AllocErr
     Ok(file)
 }
 
-/// The file of version 1.
-pub fn file_of(alloc: Global, image: Image) -> Result<Vec<u8>, AllocError> {
-    file_in(alloc, image, b'1')
+/// Places of a file, and the bytes that are there.
+pub type Bytes = &'static [(usize, u8)];
+
+// The file with other bytes at these places.
+fn changed(file: Vec<u8>, bytes: Bytes) -> Vec<u8> {
+    let mut file = file;
+    for (at, byte) in bytes {
+        if let Some(there) = file.get_mut(*at) {
+            *there = *byte;
+        }
+    }
+    file
 }
 
-/// The file of version 2 of a bank that keeps no locks.
-pub fn saved_file_of(alloc: Global, image: Image) -> Result<Vec<u8>, AllocError> {
-    file_in(alloc, image, b'2')
+/// The file of version 1, with other bytes at these places.
+pub fn file_of(alloc: Global, bank: Bank, bytes: Bytes) -> Result<Vec<u8>, AllocError> {
+    Ok(changed(file_in(alloc, bank, b'1')?, bytes))
+}
+
+/// The file of version 2 of a bank that keeps no locks, with other bytes at these places.
+pub fn saved_file_of(alloc: Global, bank: Bank, bytes: Bytes) -> Result<Vec<u8>, AllocError> {
+    Ok(changed(file_in(alloc, bank, b'2')?, bytes))
 }
 
 /// The first `len` bytes of a file, or all that it has.
@@ -205,13 +205,4 @@ pub fn first_part(file: &[u8], len: usize) -> &[u8] {
     } else {
         file
     }
-}
-
-/// The file with another byte at a place.
-pub fn changed(file: Vec<u8>, at: usize, byte: u8) -> Vec<u8> {
-    let mut file = file;
-    if let Some(there) = file.get_mut(at) {
-        *there = byte;
-    }
-    file
 }

@@ -1,8 +1,7 @@
 //! Races on banks in memory.
-use super::images::{
-    changed, file_of, four_plain_amd, one_plain, one_x16, saved_file_of, two_plain_x8,
-};
-use super::words_of;
+use super::images::Bank::{FourPlainAmd, OnePlain, OneX16, TwoPlainX8};
+use super::images::{file_of, saved_file_of};
+use super::{Ended, left_by, words_of};
 use crate::program::norbank;
 use crate::quiet::quiet;
 use nor_io::{MemShelf, MemSink, Shelf};
@@ -13,14 +12,6 @@ use std::sync::atomic::{AtomicU64, Ordering};
 use std::test::Fail;
 use std::thread;
 use std::thread::Threads;
-
-// What a command ends with: its status, what it printed, and the bank afterwards.
-#[derive(PartialEq, Eq, Debug, Drop)]
-struct Ended {
-    code: u8,
-    printed: Vec<u8>,
-    bank: Vec<u8>,
-}
 
 // `race bank script` over these files, or `run`, and calls of the sink that fail by their numbers.
 fn ends_past<R: Threads + Wait + Sync, G: Gate + Sync>(
@@ -38,11 +29,7 @@ fn ends_past<R: Threads + Wait + Sync, G: Gate + Sync>(
     let mut out = MemSink::new(alloc, fail_sink)?;
     let words = words_of(alloc, &[verb, "bank", "script"])?;
     let status = norbank(rt, alloc, &words, &mut shelf, &mut out, gate);
-    Ok(Ended {
-        code: status.code,
-        printed: out.taken().to_vec(alloc)?,
-        bank: shelf.load(alloc, "bank").unwrap_or(Vec::new(alloc)),
-    })
+    Ok(left_by(alloc, status.code, &mut shelf, &out)?)
 }
 
 // The same with a gate that is open.
@@ -64,9 +51,9 @@ const ONE_CALLER: &[u8] =
 fn a_race_of_one_caller_prints_what_a_run_prints(rt: HostRuntime) -> Result<(), Fail> {
     let alloc = rt.alloc();
     let banks = [
-        file_of(alloc, one_plain())?,
-        file_of(alloc, two_plain_x8())?,
-        file_of(alloc, four_plain_amd())?,
+        file_of(alloc, OnePlain, &[])?,
+        file_of(alloc, TwoPlainX8, &[])?,
+        file_of(alloc, FourPlainAmd, &[])?,
     ];
     for bank in &banks {
         for script in [b"".as_slice(), ONE_CALLER] {
@@ -101,7 +88,7 @@ const CELLS: usize = 552;
 #[test]
 fn callers_race_each_in_its_own_order(rt: HostRuntime) -> Result<(), Fail> {
     let alloc = rt.alloc();
-    let bank = file_of(alloc, one_plain())?;
+    let bank = file_of(alloc, OnePlain, &[])?;
     let script =
         b"2 program 0x4 00\n1 program 0x3 00\n2 read 0x4 1\n1 read 0x3 1\n8 read 0x2000 1\n";
     let raced = ends(&rt, alloc, "race", &bank, script, &[])?;
@@ -123,11 +110,7 @@ fn callers_race_each_in_its_own_order(rt: HostRuntime) -> Result<(), Fail> {
             .printed
             .ends_with(b"lane 0 suspends 0 erases 0\nhistory 5\n")
     );
-    let saved = changed(
-        changed(saved_file_of(alloc, one_plain())?, CELLS + 3, 0),
-        CELLS + 4,
-        0,
-    );
+    let saved = saved_file_of(alloc, OnePlain, &[(CELLS + 3, 0), (CELLS + 4, 0)])?;
     assert_eq!(rt; raced.bank.as_slice(), saved.as_slice());
     Ok(())
 }
@@ -135,7 +118,7 @@ fn callers_race_each_in_its_own_order(rt: HostRuntime) -> Result<(), Fail> {
 #[test]
 fn what_no_race_has_is_told(rt: HostRuntime) -> Result<(), Fail> {
     let alloc = rt.alloc();
-    let bank = file_of(alloc, one_plain())?;
+    let bank = file_of(alloc, OnePlain, &[])?;
     let cases: [(&[u8], u8, &[u8]); 7] = [
         (b"1 poll\n", 4, b"script: line 1: not here\n"),
         (
@@ -159,16 +142,10 @@ fn what_no_race_has_is_told(rt: HostRuntime) -> Result<(), Fail> {
         assert_eq!(rt; raced.printed.as_slice(), printed);
         assert_eq!(rt; raced.bank.as_slice(), bank.as_slice());
     }
-    let locks = file_of(alloc, one_x16())?;
+    let locks = file_of(alloc, OneX16, &[])?;
     let raced = ends(&rt, alloc, "race", &locks, b"", &[])?;
     assert_eq!(rt; raced.code, 11);
-    Ok(())
-}
-
-#[test]
-fn a_failing_output_saves_no_race(rt: HostRuntime) -> Result<(), Fail> {
-    let alloc = rt.alloc();
-    let bank = file_of(alloc, one_plain())?;
+    // nor is one saved whose output fails
     for call in 0..4u32 {
         let raced = ends(&rt, alloc, "race", &bank, b"1 program 0x3 00\n", &[call])?;
         assert_eq!(rt; raced.code, 7);
@@ -230,7 +207,7 @@ impl Gate for Meeting {
 #[test]
 fn callers_of_the_program_run_beside_each_other(rt: HostRuntime) -> Result<(), Fail> {
     let alloc = rt.alloc();
-    let bank = file_of(alloc, one_plain())?;
+    let bank = file_of(alloc, OnePlain, &[])?;
     let gate = Meeting {
         first_is_past: AtomicU64::new(0),
         last_is_past: AtomicU64::new(0),

@@ -51,7 +51,7 @@ returns-clause-told g c = λ own within k below.
     (lane_read width c.args.g old mid at k (g.W.BusWord.bytes c.in_ok-first.first) own below (c.in_ok-first.ensures.answers within k below))
     (lane_read width c.args.g mid new at k (g.W.BusWord.bytes c.in_ok-second.second) (own_kept width c.args.g old mid kept own) there
     (c.in_ok-second.ensures.answers (subst (λ (n : ℕ). at < n) (sym c.look.ensures.units) within) k there))
-    (c.data_watch.ensures.told k (subst (λ (n : ℕ). k < n) own.count below)))
+    (c.watch_of.ensures.told k (subst (λ (n : ℕ). k < n) own.count below)))
 
 pub returns-clause-went : goal.returns-clause-went
 returns-clause-went g c =

@@ -2,7 +2,7 @@ use Rattle.std.proofs.Common.{ℕ, ◌<◌, arith, sym, subst, ap, ◌∙◌}
 use Rattle.nor_cell.specs.Steps.{written}
 use Rattle.nor_word.specs.Word.{lane_of}
 use Rattle.nor_bus.specs.Bus.{lane}
-use Rattle.nor_bus.specs.Driven.{spread}
+use Rattle.nor_bus.specs.Driven.{spread, EachLane, Darkens}
 use Rattle.nor_bus.proofs.Driving.{few_lanes, device_of, part_reached}
 use Rattle.nor_poll.specs.Resume.{TakesResume, resume_code}
 use Rattle.nor_poll.specs.Erase.{ChangesWithinErase}
@@ -35,3 +35,9 @@ returns-clause-resumes g c = λ reaches target k below takes.
           (ap (λ (d : ℕ). lane_of d word k) device ∙ (c.resume_word.ensures k there ∙ ap (λ (d : ℕ). spread d (resume_code set state)) (sym device)))),
       c.resumed_lanes.ensures k (omega (arith, few, below)),
     )
+
+pub returns-in_err-write_word-clause-dark : goal.returns-in_err-write_word-clause-dark
+returns-in_err-write_word-clause-dark g c =
+    let old = g.B.Bus.state c.args.bus.now in
+    let new = g.B.Bus.state c.write_word.new.bus in
+    on_err c.from_residual.result (EachLane Darkens old new) (darkens old new c.in_err-write_word.ensures.fails)

@@ -38,7 +38,7 @@ returns-then-not-just_ended-clause-told g c = λ own within k below.
     told_pair at (lane old k) _ (lane mid k) _ (lane new k) _ (lane_read width c.args.g old mid at k (g.W.BusWord.bytes c.in_ok-first.first) own below (c.in_ok-first.ensures.answers within k below))
     (lane_read width c.args.g mid new at k (g.W.BusWord.bytes c.in_ok-second.second) (own_kept width c.args.g old mid kept own) there
     (c.in_ok-second.ensures.answers (subst (λ (n : ℕ). at < n) (sym c.look.ensures.units) within) k there))
-    (c.pair_watch.ensures.told k (subst (λ (n : ℕ). k < n) own.count below))
+    (c.watch_of.ensures.told k (subst (λ (n : ℕ). k < n) own.count below))
 
 pub returns-then-not-just_ended-clause-went : goal.returns-then-not-just_ended-clause-went
 returns-then-not-just_ended-clause-went g c =
@@ -91,7 +91,7 @@ returns-clause-told g c = λ own within k below.
     (lane_read width c.args.g mid last at k (g.W.BusWord.bytes c.in_ok-second.second) own1 there (c.in_ok-second.ensures.answers (subst (λ (n : ℕ). at < n) (sym c.look.ensures.units) within) k there))
     (lane_read width c.args.g last new at k (g.W.BusWord.bytes c.in_ok-third.third) own2 here
     (c.in_ok-third.ensures.answers (subst (λ (n : ℕ). at < n) (sym (c.look-2.ensures.units ∙ c.look.ensures.units)) within) k here))
-    (c.if-not-just_ended.ensures.over refl k lane_number) (c.over_watch.ensures.told k lane_number)
+    (c.if-not-just_ended.ensures.over refl k lane_number) (c.watch_of-2.ensures.told k lane_number)
 
 pub returns-clause-went : goal.returns-clause-went
 returns-clause-went g c =
@@ -104,9 +104,9 @@ returns-clause-went g c =
 
 pub returns-clause-short : goal.returns-clause-short
 returns-clause-short g c = λ k works.
-    let told = c.over_watch.ensures in
+    let told = c.watch_of-2.ensures in
     let d = unit_len c.args.g.device in
-    absurd (over_works k c.args.g.lanes (seen_at c.over_watch.result.lanes) (lane_of d (g.W.BusWord.bytes c.in_ok-second.second)) (lane_of d (g.W.BusWord.bytes c.in_ok-third.third)) told.told told.past works)
+    absurd (over_works k c.args.g.lanes (seen_at c.watch_of-2.result.lanes) (lane_of d (g.W.BusWord.bytes c.in_ok-second.second)) (lane_of d (g.W.BusWord.bytes c.in_ok-third.third)) told.told told.past works)
 
 pub returns-clause-late : goal.returns-clause-late
 returns-clause-late g c = λ own within shows.

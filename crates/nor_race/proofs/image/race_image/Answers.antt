@@ -1,4 +1,6 @@
 use Rattle.std.proofs.Common.{true}
+use Rattle.nor_image.specs.Loaded.{bus_of, loaded_width}
+use Rattle.nor_run.proofs.Causing.{halts_caused}
 use Rattle.nor_run.proofs.Reporting.{from_file, fits_file, image_reports}
 use Rattle.nor_race.proofs.image.race_image.Goals as goal
 
@@ -10,8 +12,14 @@ fill_image-requires g c =
     fits_file c.args.file.now c.args.loaded c.race_loaded-loaded.result.0 c.requires.loaded c.requires.room c.race_loaded-loaded.ensures.width c.race_loaded-loaded.ensures.lanes
 
 pub returns-in-Ok-clause-reports : goal.returns-in-Ok-clause-reports
-returns-in-Ok-clause-reports g c = λ qry.
+returns-in-Ok-clause-reports g c =
     image_reports true c.args.script.now c.args.loaded c.race_loaded-loaded.result.0
     (g.K.Sink.state c.args.out.now) (g.K.Sink.state c.race_loaded-loaded.new.out)
-    c.in-Ok.ran c.race_loaded-loaded.result.1 c.fill_image.new.file c.requires.loaded c.race_loaded-loaded.ensures.width c.race_loaded-loaded.ensures.lanes c.in-Ok.is
-    (c.race_loaded-loaded.ensures.reports qry) c.fill_image.ensures.file c.fill_image.ensures.stands
+    c.in-Ok.ran c.race_loaded-loaded.result.1 c.fill_image.new.file c.requires.loaded c.race_loaded-loaded.ensures.width c.in-Ok.is
+    c.race_loaded-loaded.ensures.reports c.fill_image.ensures.file c.fill_image.ensures.stands
+
+pub returns-in-Ok-clause-caused : goal.returns-in-Ok-clause-caused
+returns-in-Ok-clause-caused g c = λ qry halted.
+    halts_caused true (loaded_width c.args.loaded) c.args.script.now (bus_of c.args.loaded) (bus_of c.race_loaded-loaded.result.0)
+    (g.K.Sink.state c.args.out.now) (g.K.Sink.state c.race_loaded-loaded.new.out)
+    c.in-Ok.ran c.race_loaded-loaded.result.1 c.in-Ok.is c.race_loaded-loaded.ensures.reports qry halted

@@ -19,8 +19,7 @@ returns-in-Ok-clause-reports g c =
     let lines = c.args.script.now in
     let last = g.K.Sink.state c.put_end-ran.new.out in
     reports true g.W.BusWord.WIDTH c.args.bank lines c.in-Ok.bank c.race_and_put-bank.result.0 c.stop.result before last c.put_end-ran.result c.in-Ok.ensures.started c.stop.ensures c.race_and_put-bank.ensures.keeps
-    (λ a can.
-    c.put_end-ran.ensures.reports true lines c.in-Ok.bank c.race_and_put-bank.result.0 a before (sym c.bus.ensures) (c.race_and_put-bank.ensures.runs a can))
+    (c.put_end-ran.ensures.reports true lines c.in-Ok.bank c.race_and_put-bank.result.0 before (sym c.bus.ensures) c.race_and_put-bank.ensures.runs)
 
 pub returns-in-Ok-clause-lanes : goal.returns-in-Ok-clause-lanes
 returns-in-Ok-clause-lanes g c =

@@ -18,9 +18,8 @@ returns-in-Ok-clause-reports g c =
     let mid = g.K.Sink.state c.run_lines.new.out in
     let last = g.K.Sink.state c.put_end-ran.new.out in
     reports false g.W.BusWord.WIDTH c.args.bank lines c.in-Ok.bank c.run_lines.new.bank c.stop.result before last c.put_end-ran.result c.in-Ok.ensures.started c.stop.ensures c.run_lines.ensures.keeps
-    (λ a can.
-    c.put_end-ran.ensures.reports false lines c.in-Ok.bank c.run_lines.new.bank a before (sym c.bus.ensures)
-    (put_runs lines c.in-Ok.bank c.run_lines.new.bank a before mid c.run_lines.result c.of_put-ran.result can c.of_put-ran.ensures c.run_lines.ensures.ran c.run_lines.ensures.stopped))
+    (c.put_end-ran.ensures.reports false lines c.in-Ok.bank c.run_lines.new.bank before (sym c.bus.ensures)
+    (put_runs lines c.in-Ok.bank c.run_lines.new.bank before mid c.run_lines.result c.of_put-ran.result c.of_put-ran.ensures c.run_lines.ensures.ran c.run_lines.ensures.stopped))
 
 pub returns-in-Ok-clause-lanes : goal.returns-in-Ok-clause-lanes
 returns-in-Ok-clause-lanes g c =

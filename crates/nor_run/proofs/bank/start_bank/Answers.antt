@@ -29,8 +29,8 @@ returns-else-has_locks-clause-started g c =
     }
 
 pub returns-in-Err-clause-refused : goal.returns-in-Err-clause-refused
-returns-in-Err-clause-refused g c = (
-  sym c.if-not-is_built_for.ensures.built,
-  refused_as g.W.BusWord.WIDTH c.args.bank c.in-Err.bank c.in-Err.error c.requires.loaded c.in-Err.ensures.refused c.in-Err.ensures.lost,
-  λ is. never_lost g.W.BusWord.WIDTH c.args.bank c.in-Err.bank c.requires.loaded (c.in-Err.ensures.lost is),
-)
+returns-in-Err-clause-refused g c = record {
+  built = sym c.if-not-is_built_for.ensures.built;
+  refused = refused_as g.W.BusWord.WIDTH c.args.bank c.in-Err.bank c.in-Err.error c.requires.loaded c.in-Err.ensures.refused c.in-Err.ensures.lost;
+  powered = λ is. never_lost g.W.BusWord.WIDTH c.args.bank c.in-Err.bank c.requires.loaded (c.in-Err.ensures.lost is);
+}

@@ -3,6 +3,6 @@ use Rattle.nor_run.proofs.Calling.{read_runs}
 use Rattle.nor_run.proofs.lines.read_into.Goals as goal
 
 pub returns-clause-runs : goal.returns-clause-runs
-returns-clause-runs g c = λ a can.
-    read_runs c.args.bank.now c.read-reply.new.self a c.args.caller c.args.at c.args.len (length c.args.into.now) c.args.position c.read-reply.new.into c.read-reply.result _ _ c.put_reply.result can
+returns-clause-runs g c =
+    read_runs c.args.bank.now c.read-reply.new.self c.args.caller c.args.at c.args.len (length c.args.into.now) c.args.position c.read-reply.new.into c.read-reply.result _ _ c.put_reply.result
     c.requires c.read-reply.ensures.call c.put_reply.ensures.puts

@@ -3,6 +3,6 @@ use Rattle.nor_run.proofs.Calling.{read_runs}
 use Rattle.nor_run.proofs.lines.run_read.Goals as goal
 
 pub returns-in-Some-clause-runs : goal.returns-in-Some-clause-runs
-returns-in-Some-clause-runs g c = λ a can.
-    read_runs c.args.bank.now c.args.bank.now a c.args.caller c.args.at c.args.len c.from.result c.args.position [] c.in-Some.reply _ _ c.put_reply.result can
+returns-in-Some-clause-runs g c =
+    read_runs c.args.bank.now c.args.bank.now c.args.caller c.args.at c.args.len c.from.result c.args.position [] c.in-Some.reply _ _ c.put_reply.result
     c.from.ensures (c.in-Some.ensures.call c.args.caller []) c.put_reply.ensures.puts

@@ -1,51 +1,88 @@
-use Rattle.std.proofs.Common.{◌≤◌, ◌^◌, List, ℕ, Some, None, inl, inr, refl, subst, length, rules}
-use Rattle.nor_io.specs.Files.{Rose, IsTooLarge, IsAbsent}
-use Rattle.norbank.specs.Endings.{ends}
-use Rattle.norbank.specs.Says.{Says}
-use Rattle.norbank.specs.Text.{read_fault, absent, too_large}
-use Rattle.norbank.proofs.FileEnds.{found_file, found_large, found_none}
-use Rattle.norbank.proofs.JobStages.{told_goes, told_ends}
-use Rattle.norbank.proofs.RunStages.{image_stops}
+use Rattle.std.proofs.Common.{◌≡◌, ◌∙◌, refl, ap, sym, subst, List, ℕ, length, false, Ok, Err}
+use Rattle.nor_cell.proofs.Logic.{if_gave}
+use Rattle.nor_run.specs.Built.{are_built}
+use Rattle.nor_script.specs.Script.{Reads, script_of}
+use Rattle.nor_script.specs.declared.line.Line.{Line}
+use Rattle.nor_script.proofs.Callers.{says_script}
+use Rattle.norbank.specs.Opened.{FailsJob}
+use Rattle.norbank.specs.declared.stop.Stop.TheVariants.{BadScript}
+use Rattle.norbank.proofs.Opening.{loaded_as, no_bank_file, no_script_file, no_bank, weak_bank, no_script, unbuilt_lines, image_free, chips_free, chips_weak}
+use Rattle.norbank.proofs.Stopping.{lines_stop}
 use Rattle.norbank.proofs.jobs.job_of.Goals as goal
 
-pub returns-in-Ok-clause-goes : goal.returns-in-Ok-clause-goes
-returns-in-Ok-clause-goes g c =
-    let file = c.in-Ok.file.items in
-    let small : length file ≤ 2 ^ 30 = search rules in
-    told_goes c.args.race file c.args.name.now c.args.script.now (g.H.Shelf.state c.args.shelf.now) (g.H.Shelf.state c.load.new.self) (g.H.Shelf.state c.job_of_named.new.shelf) c.job_of_named.result
-    c.load.ensures.same c.load.ensures.later (found_file (g.H.Shelf.state c.args.shelf.now).files c.args.name.now file c.in-Ok.ensures.found) small c.job_of_named.ensures.goes
+pub returns-in_err-file-clause-stops : goal.returns-in_err-file-clause-stops
+returns-in_err-file-clause-stops g c =
+    let was = g.H.Shelf.state c.args.shelf.now in
+    let now = g.H.Shelf.state c.load.new.shelf in
+    let stop = c.in_err-file.field-0.0 in
+    if_gave c.from_residual.result stop (FailsJob c.args.race c.args.image.now c.args.script.now was now) c.from_residual.ensures.1
+    (no_bank_file c.args.race c.args.image.now c.args.script.now was now stop c.in_err-file.ensures.stops)
 
-pub returns-in-Ok-clause-ends : goal.returns-in-Ok-clause-ends
-returns-in-Ok-clause-ends g c =
-    let file = c.in-Ok.file.items in
-    let small : length file ≤ 2 ^ 30 = search rules in
-    told_ends c.args.race file c.args.name.now c.args.script.now (g.H.Shelf.state c.args.shelf.now) (g.H.Shelf.state c.load.new.self) (g.H.Shelf.state c.job_of_named.new.shelf)
-    (g.K.Sink.state c.args.out.now) (g.K.Sink.state c.job_of_named.new.out) c.job_of_named.result
-    c.load.ensures.same c.load.ensures.later (found_file (g.H.Shelf.state c.args.shelf.now).files c.args.name.now file c.in-Ok.ensures.found) small c.job_of_named.ensures.ends
+pub returns-in_err-text-clause-stops : goal.returns-in_err-text-clause-stops
+returns-in_err-text-clause-stops g c =
+    let was = g.H.Shelf.state c.args.shelf.now in
+    let now = g.H.Shelf.state c.load-2.new.shelf in
+    let stop = c.in_err-text.field-0.0 in
+    if_gave c.from_residual-in_err-text.result stop (FailsJob c.args.race c.args.image.now c.args.script.now was now) c.from_residual-in_err-text.ensures.1
+    (no_script_file c.args.race c.args.image.now c.args.script.now c.in_ok-file.file.items
+    was (g.H.Shelf.state c.load.new.shelf) now stop
+    c.in_ok-file.ensures.loaded c.load.ensures.same c.load.ensures.later c.in_err-text.ensures.stops)
 
-pub returns-in-Err-Absent-clause-ends : goal.returns-in-Err-Absent-clause-ends
-returns-in-Err-Absent-clause-ends g c =
-    let told : IsAbsent (g.H.Shelf.state c.args.shelf.now).files c.args.name.now = search rules in
-    image_stops c.args.race None c.args.name.now c.args.script.now (ends 8 (absent c.args.name.now)) (g.H.Shelf.state c.args.shelf.now) (g.H.Shelf.state c.load.new.self)
-    (g.K.Sink.state c.args.out.now) (g.K.Sink.state c.say_line.new.out) c.say_line.result.code
-    c.load.ensures.same (found_none (g.H.Shelf.state c.args.shelf.now).files c.args.name.now told) (λ text. refl)
-    (subst (λ (n : List ℕ). Says (ends 8 (absent n)) (g.K.Sink.state c.args.out.now) (g.K.Sink.state c.say_line.new.out) c.say_line.result.code)
-    c.as_bytes.ensures.value c.say_line.ensures.says)
+pub returns-in_err-loaded-clause-stops : goal.returns-in_err-loaded-clause-stops
+returns-in_err-loaded-clause-stops g c =
+    let was = g.H.Shelf.state c.args.shelf.now in
+    let now = g.H.Shelf.state c.load-2.new.shelf in
+    let stop = c.in_err-loaded.field-0.0 in
+    if_gave c.from_residual-in_err-loaded.result stop (FailsJob c.args.race c.args.image.now c.args.script.now was now) c.from_residual-in_err-loaded.ensures.1
+    (no_bank c.args.race c.args.image.now c.args.script.now c.in_ok-file.file.items c.in_ok-text.text.items was now stop c.in_ok-file.ensures.loaded
+    (loaded_as (g.H.Shelf.state c.load.new.shelf).files was.files c.args.script.now c.in_ok-text.text.items c.load.ensures.same c.in_ok-text.ensures.loaded)
+    c.in_err-loaded.ensures.stops)
 
-pub returns-in-Err-ReadFault-clause-ends : goal.returns-in-Err-ReadFault-clause-ends
-returns-in-Err-ReadFault-clause-ends g c =
-    let rose : Rose (g.H.Shelf.state c.args.shelf.now).faults (g.H.Shelf.state c.load.new.self).faults = search rules in
-    inr (inl (inl (record {
-      kept = c.load.ensures.same;
-      rose = rose;
-      says = subst (λ (n : List ℕ). Says (ends 7 (read_fault n)) (g.K.Sink.state c.args.out.now) (g.K.Sink.state c.say_line-in-Err-ReadFault.new.out) c.say_line-in-Err-ReadFault.result.code)
-          c.as_bytes-in-Err-ReadFault.ensures.value c.say_line-in-Err-ReadFault.ensures.says;
-    })))
+pub returns-then-not-is_built-clause-stops : goal.returns-then-not-is_built-clause-stops
+returns-then-not-is_built-clause-stops g c =
+    let file = c.in_ok-file.file.items in
+    let bank = c.in_ok-loaded.ensures.bank in
+    weak_bank c.args.race c.args.image.now c.args.script.now file c.in_ok-text.text.items
+    (g.H.Shelf.state c.args.shelf.now) (g.H.Shelf.state c.load-2.new.shelf) _ c.in_ok-file.ensures.loaded
+    (loaded_as (g.H.Shelf.state c.load.new.shelf).files (g.H.Shelf.state c.args.shelf.now).files c.args.script.now c.in_ok-text.text.items c.load.ensures.same c.in_ok-text.ensures.loaded)
+    refl (image_free file c.in_ok-loaded.loaded bank) (chips_weak file c.in_ok-loaded.loaded bank (sym c.if-not-is_built.ensures))
 
-pub returns-in-Err-TooLarge-clause-ends : goal.returns-in-Err-TooLarge-clause-ends
-returns-in-Err-TooLarge-clause-ends g c =
-    let told : IsTooLarge (g.H.Shelf.state c.args.shelf.now).files c.args.name.now = search rules in
-    let large = found_large (g.H.Shelf.state c.args.shelf.now).files c.args.name.now told in
-    image_stops c.args.race (Some large.file) c.args.name.now c.args.script.now (ends 3 too_large) (g.H.Shelf.state c.args.shelf.now) (g.H.Shelf.state c.load.new.self)
-    (g.K.Sink.state c.args.out.now) (g.K.Sink.state c.say.new.out) c.say.result.code
-    c.load.ensures.same large.is_found (λ text. inl (large.large, refl)) c.say.ensures.says
+pub returns-in_err-script-clause-stops : goal.returns-in_err-script-clause-stops
+returns-in_err-script-clause-stops g c =
+    let was = g.H.Shelf.state c.args.shelf.now in
+    let now = g.H.Shelf.state c.load-2.new.shelf in
+    let file = c.in_ok-file.file.items in
+    let bank = c.in_ok-loaded.ensures.bank in
+    let error = c.in_err-script.field-0.0 in
+    if_gave c.from_residual-in_err-script.result (BadScript error) (FailsJob c.args.race c.args.image.now c.args.script.now was now) c.from_residual-in_err-script.ensures.1
+    (no_script c.args.race c.args.image.now c.args.script.now file c.in_ok-text.text.items was now (BadScript error) c.in_ok-file.ensures.loaded
+    (loaded_as (g.H.Shelf.state c.load.new.shelf).files was.files c.args.script.now c.in_ok-text.text.items c.load.ensures.same c.in_ok-text.ensures.loaded)
+    error refl (image_free file c.in_ok-loaded.loaded bank) (chips_free file c.in_ok-loaded.loaded bank (sym c.if-not-is_built.ensures))
+    (subst (λ (t : List ℕ). Reads (script_of c.args.race t) (Err error)) c.deref.ensures.value c.in_err-script.ensures))
+
+pub returns-then-not-are_built-clause-stops : goal.returns-then-not-are_built-clause-stops
+returns-then-not-are_built-clause-stops g c =
+    let file = c.in_ok-file.file.items in
+    let bank = c.in_ok-loaded.ensures.bank in
+    let unbuilt : are_built c.in_ok-script.script ≡ false = ap (λ (ls : List Line). are_built ls) (sym c.lines.ensures) ∙ sym c.if-not-are_built.ensures in
+    let says : script_of c.args.race c.in_ok-text.text.items ≡ Ok c.in_ok-script.script = ap (λ (t : List ℕ). script_of c.args.race t) (sym c.deref.ensures.value) ∙ c.in_ok-script.ensures in
+    unbuilt_lines c.args.race c.args.image.now c.args.script.now file c.in_ok-text.text.items
+    (g.H.Shelf.state c.args.shelf.now) (g.H.Shelf.state c.load-2.new.shelf) _ c.in_ok-file.ensures.loaded
+    (loaded_as (g.H.Shelf.state c.load.new.shelf).files (g.H.Shelf.state c.args.shelf.now).files c.args.script.now c.in_ok-text.text.items c.load.ensures.same c.in_ok-text.ensures.loaded)
+    refl (image_free file c.in_ok-loaded.loaded bank) (chips_free file c.in_ok-loaded.loaded bank (sym c.if-not-is_built.ensures))
+    (lines_stop (script_of c.args.race c.in_ok-text.text.items) c.in_ok-script.script says unbuilt)
+
+pub returns-clause-ready : goal.returns-clause-ready
+returns-clause-ready g c = record {
+  file = c.in_ok-file.file.items;
+  is_file = c.in_ok-file.ensures.loaded;
+  text = c.in_ok-text.text.items;
+  is_text = loaded_as (g.H.Shelf.state c.load.new.shelf).files (g.H.Shelf.state c.args.shelf.now).files c.args.script.now c.in_ok-text.text.items c.load.ensures.same c.in_ok-text.ensures.loaded;
+  is_bank = c.in_ok-loaded.ensures.bank;
+  built = sym c.if-not-is_built.ensures;
+  is_script = ap (λ (t : List ℕ). script_of c.args.race t) (sym c.deref.ensures.value) ∙ c.in_ok-script.ensures;
+  lines = ap (λ (ls : List Line). are_built ls) (sym c.lines.ensures) ∙ sym c.if-not-are_built.ensures;
+  loaded = c.in_ok-loaded.ensures.loaded;
+  room = ap (λ (bytes : List ℕ). length bytes) c.in_ok-file-2.ensures.file;
+  script = says_script c.args.race c.deref.result.now c.in_ok-script.script c.in_ok-script.ensures;
+}

@@ -1,29 +1,17 @@
-use Rattle.std.proofs.Common.{◌≡◌, ◌∙◌, sym, length, arith, true}
-use Rattle.norbank.specs.Words.{word_at}
-use Rattle.norbank.proofs.AsAsked.{ends_script, of_race}
-use Rattle.norbank.proofs.RunStages.{names_as}
-use Rattle.norbank.proofs.WordLemmas.{race_words}
+use Rattle.std.proofs.Common.{true}
+use Rattle.norbank.specs.Words.{asked, asked_by}
+use Rattle.norbank.proofs.AsAsked.{all_ends}
 use Rattle.norbank.proofs.program.norbank.Goals as goal
 
-pub word-requires-in-Race : goal.word-requires-in-Race
-word-requires-in-Race g c = let three : length c.args.words.now ≡ 3 = race_words c.args.words.now (sym c.command_of.ensures ∙ c.in-Race.is) in omega (arith, three)
+pub returns-clause-ends : goal.returns-clause-ends
+returns-clause-ends g c =
+    all_ends (asked_by c.command_of-command.result) (asked c.args.words.now) (g.H.Shelf.state c.args.shelf.now) (g.H.Shelf.state c.obey_all-ended.new.shelf)
+    (g.K.Sink.state c.args.out.now) (g.K.Sink.state c.obey_all-ended.new.out) (g.K.Sink.state c.tell.new.out) c.tell.result.code c.obey_all-ended.result
+    c.command_of-command.ensures c.obey_all-ended.ensures.does c.tell.ensures.tells c.obey_all-ended.ensures.later c.tell.ensures.later
 
-pub returns-in-Race-clause-race : goal.returns-in-Race-clause-race
-returns-in-Race-clause-race g c = λ asks.
-    let was = g.H.Shelf.state c.args.shelf.now in
-    let now = g.H.Shelf.state c.race.new.shelf in
-    let before = g.K.Sink.state c.args.out.now in
-    let after = g.K.Sink.state c.race.new.out in
-    ends_script true (word_at c.args.words.now 1) (word_at c.args.words.now 2) was now before after c.race.result.code
-    (names_as true c.word.result.now (word_at c.args.words.now 1) c.word-in-Race.result.now (word_at c.args.words.now 2) was now before after c.race.result.code
-    c.word.ensures c.word-in-Race.ensures c.race.ensures.runs)
-
-pub returns-in-Race-clause-ends : goal.returns-in-Race-clause-ends
-returns-in-Race-clause-ends g c =
-    let was = g.H.Shelf.state c.args.shelf.now in
-    let now = g.H.Shelf.state c.race.new.shelf in
-    let before = g.K.Sink.state c.args.out.now in
-    let after = g.K.Sink.state c.race.new.out in
-    of_race c.args.words.now was now before after c.race.result.code (sym c.command_of.ensures ∙ c.in-Race.is)
-    (names_as true c.word.result.now (word_at c.args.words.now 1) c.word-in-Race.result.now (word_at c.args.words.now 2) was now before after c.race.result.code
-    c.word.ensures c.word-in-Race.ensures c.race.ensures.runs)
+pub returns-clause-race : goal.returns-clause-race
+returns-clause-race g c = λ image script is run.
+    let ends = all_ends (asked_by c.command_of-command.result) (asked c.args.words.now) (g.H.Shelf.state c.args.shelf.now) (g.H.Shelf.state c.obey_all-ended.new.shelf)
+    (g.K.Sink.state c.args.out.now) (g.K.Sink.state c.obey_all-ended.new.out) (g.K.Sink.state c.tell.new.out) c.tell.result.code c.obey_all-ended.result
+    c.command_of-command.ensures c.obey_all-ended.ensures.does c.tell.ensures.tells c.obey_all-ended.ensures.later c.tell.ensures.later in
+    ends.ran true image script is run

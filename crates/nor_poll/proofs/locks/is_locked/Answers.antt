@@ -1,0 +1,111 @@
+use Rattle.std.proofs.Common.{List, subst, arith, length, ◌+◌, ap, ◌∙◌}
+use Rattle.nor_bus.specs.Bus.{lane}
+use Rattle.nor_bus.specs.Driven.{Reaches, EachLane}
+use Rattle.nor_bus.proofs.Driving.{went_then, lost_then, reaches_kept, lane_kept, keeps_then}
+use Rattle.nor_poll.specs.Codes.{after_cycles, DarkensIn, cycles_of}
+use Rattle.nor_poll.specs.Losing.{LosesNone}
+use Rattle.nor_poll.specs.Lock.{OffersLocks}
+use Rattle.nor_poll.specs.declared.codes.Command.TheVariants.{ShowLocks, LeaveLocks}
+use Rattle.nor_poll.specs.declared.codes.Cycle.{Cycle}
+use Rattle.nor_poll.proofs.Reading.{on_err, asks_lost, darkens}
+use Rattle.nor_poll.proofs.Locking.{loses_showing, loses_shown, loses_leaving}
+use Rattle.nor_poll.proofs.LockReads.{IsRead, mid_shows, last_shows, tells}
+use Rattle.nor_poll.proofs.locks.is_locked.Goals as goal
+
+pub returns-in_err-write_cycles-clause-loses : goal.returns-in_err-write_cycles-clause-loses
+returns-in_err-write_cycles-clause-loses g c =
+    let old = g.B.Bus.state c.args.bus.now in
+    let new = g.B.Bus.state c.write_cycles.new.bus in
+    on_err c.from_residual.result (Reaches g.W.BusWord.WIDTH c.args.g c.args.at old → EachLane (LosesNone (OffersLocks c.args.set)) old new) (λ reaches k below.
+    loses_showing c.args.set c.args.at (lane old k) (lane new k)
+    (subst (λ (l : List Cycle). DarkensIn c.args.at l (lane old k) (lane new k)) c.cycles_of.ensures (c.in_err-write_cycles.ensures.dark reaches k below)))
+
+pub returns-in_err-word-clause-loses : goal.returns-in_err-word-clause-loses
+returns-in_err-word-clause-loses g c =
+    let old = g.B.Bus.state c.args.bus.now in
+    let mid = g.B.Bus.state c.write_cycles.new.bus in
+    let new = g.B.Bus.state c.read_word.new.bus in
+    on_err c.from_residual-in_err-word.result (Reaches g.W.BusWord.WIDTH c.args.g c.args.at old → EachLane (LosesNone (OffersLocks c.args.set)) old new) (λ reaches k below.
+    loses_shown c.args.set (lane old k) (lane mid k) (lane new k)
+    (mid_shows c.args.set c.args.at (lane old k) (lane mid k)
+    (c.in_ok-write_cycles.ensures.lanes reaches k below ∙ ap (λ (l : List Cycle). after_cycles c.args.at l (lane old k)) c.cycles_of.ensures))
+    (darkens mid new c.in_err-word.ensures.fails k (lane_kept old mid k c.in_ok-write_cycles.ensures.went.kept below)))
+
+pub returns-in_err-word-clause-cycles : goal.returns-in_err-word-clause-cycles
+returns-in_err-word-clause-cycles g c =
+    let old = g.B.Bus.state c.args.bus.now in
+    let mid = g.B.Bus.state c.write_cycles.new.bus in
+    let new = g.B.Bus.state c.read_word.new.bus in
+    let n = length c.cycles_of.result.now in
+    let first = ap (λ (l : List Cycle). length l) c.cycles_of.ensures in
+    let k = length (cycles_of c.args.set ShowLocks) + 1 + length (cycles_of c.args.set LeaveLocks) in
+    asks_lost k c.from_residual-in_err-word.result old new c.from_residual-in_err-word.ensures.0
+    (lost_then n n 1 k old mid new (omega (arith, first)) c.in_ok-write_cycles.ensures.went c.in_err-word.ensures.lost)
+
+pub returns-in_err-write_cycles-2-clause-loses : goal.returns-in_err-write_cycles-2-clause-loses
+returns-in_err-write_cycles-2-clause-loses g c =
+    let old = g.B.Bus.state c.args.bus.now in
+    let mid = g.B.Bus.state c.write_cycles.new.bus in
+    let last = g.B.Bus.state c.read_word.new.bus in
+    let new = g.B.Bus.state c.write_cycles-2.new.bus in
+    let kept = keeps_then old mid last c.in_ok-write_cycles.ensures.went.kept c.in_ok-word.ensures.went.kept in
+    let read : IsRead c.args.set g.W.BusWord.WIDTH c.args.g c.args.at c.lock_address.result (g.W.BusWord.bytes c.in_ok-word.word) old mid last = record {
+      wired = c.read_word.ensures.wired;
+      at = c.lock_address.ensures;
+      first = c.in_ok-write_cycles.ensures.went.kept;
+      second = c.in_ok-word.ensures.went.kept;
+      shown = λ reaches k below. c.in_ok-write_cycles.ensures.lanes reaches k below ∙ ap (λ (l : List Cycle). after_cycles c.args.at l (lane old k)) c.cycles_of.ensures;
+      answered = c.in_ok-word.ensures.lanes;
+    } in
+    on_err c.from_residual-in_err-write_cycles-2.result (Reaches g.W.BusWord.WIDTH c.args.g c.args.at old → EachLane (LosesNone (OffersLocks c.args.set)) old new) (λ reaches k below.
+    loses_leaving c.args.set c.args.at (lane old k) (lane last k) (lane new k)
+    (last_shows c.args.set g.W.BusWord.WIDTH c.args.g c.args.at c.lock_address.result (g.W.BusWord.bytes c.in_ok-word.word) old mid last read reaches k below)
+    (subst (λ (l : List Cycle). DarkensIn c.args.at l (lane last k) (lane new k)) c.cycles_of-2.ensures
+    (c.in_err-write_cycles-2.ensures.dark (reaches_kept g.W.BusWord.WIDTH c.args.g c.args.at old last kept reaches) k (lane_kept old last k kept below))))
+
+pub returns-in_err-write_cycles-2-clause-cycles : goal.returns-in_err-write_cycles-2-clause-cycles
+returns-in_err-write_cycles-2-clause-cycles g c =
+    let old = g.B.Bus.state c.args.bus.now in
+    let mid = g.B.Bus.state c.write_cycles.new.bus in
+    let last = g.B.Bus.state c.read_word.new.bus in
+    let new = g.B.Bus.state c.write_cycles-2.new.bus in
+    let n = length c.cycles_of.result.now in
+    let m = length c.cycles_of-2.result.now in
+    let first = ap (λ (l : List Cycle). length l) c.cycles_of.ensures in
+    let second = ap (λ (l : List Cycle). length l) c.cycles_of-2.ensures in
+    let k = length (cycles_of c.args.set ShowLocks) + 1 + length (cycles_of c.args.set LeaveLocks) in
+    asks_lost k c.from_residual-in_err-write_cycles-2.result old new c.from_residual-in_err-write_cycles-2.ensures.0
+    (lost_then n n (1 + m) k old mid new (omega (arith, first, second)) c.in_ok-write_cycles.ensures.went
+    (lost_then 1 1 m (1 + m) mid last new (omega arith) c.in_ok-word.ensures.went c.in_err-write_cycles-2.ensures.lost))
+
+pub returns-clause-tells : goal.returns-clause-tells
+returns-clause-tells g c =
+    let old = g.B.Bus.state c.args.bus.now in
+    let mid = g.B.Bus.state c.write_cycles.new.bus in
+    let last = g.B.Bus.state c.read_word.new.bus in
+    let new = g.B.Bus.state c.write_cycles-2.new.bus in
+    let read : IsRead c.args.set g.W.BusWord.WIDTH c.args.g c.args.at c.lock_address.result (g.W.BusWord.bytes c.in_ok-word.word) old mid last = record {
+      wired = c.read_word.ensures.wired;
+      at = c.lock_address.ensures;
+      first = c.in_ok-write_cycles.ensures.went.kept;
+      second = c.in_ok-word.ensures.went.kept;
+      shown = λ reaches k below. c.in_ok-write_cycles.ensures.lanes reaches k below ∙ ap (λ (l : List Cycle). after_cycles c.args.at l (lane old k)) c.cycles_of.ensures;
+      answered = c.in_ok-word.ensures.lanes;
+    } in
+    tells c.args.set g.W.BusWord.WIDTH c.args.g c.args.at c.lock_address.result (g.W.BusWord.bytes c.in_ok-word.word) old mid last new c.is_any_locked.result read
+    (λ reaches k below. c.in_ok-write_cycles-2.ensures.lanes reaches k below ∙ ap (λ (l : List Cycle). after_cycles c.args.at l (lane last k)) c.cycles_of-2.ensures)
+    (c.is_any_locked.ensures.none, c.is_any_locked.ensures.some)
+
+pub returns-clause-cycles : goal.returns-clause-cycles
+returns-clause-cycles g c =
+    let old = g.B.Bus.state c.args.bus.now in
+    let mid = g.B.Bus.state c.write_cycles.new.bus in
+    let last = g.B.Bus.state c.read_word.new.bus in
+    let new = g.B.Bus.state c.write_cycles-2.new.bus in
+    let n = length c.cycles_of.result.now in
+    let m = length c.cycles_of-2.result.now in
+    let first = ap (λ (l : List Cycle). length l) c.cycles_of.ensures in
+    let second = ap (λ (l : List Cycle). length l) c.cycles_of-2.ensures in
+    let k = length (cycles_of c.args.set ShowLocks) + 1 + length (cycles_of c.args.set LeaveLocks) in
+    went_then n n (1 + m) (1 + m) k k old mid new (omega (arith, first, second)) (omega (arith, first, second)) c.in_ok-write_cycles.ensures.went
+    (went_then 1 1 m m (1 + m) (1 + m) mid last new (omega arith) (omega arith) c.in_ok-word.ensures.went c.in_ok-write_cycles-2.ensures.went)

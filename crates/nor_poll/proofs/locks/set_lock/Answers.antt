@@ -1,0 +1,70 @@
+use Rattle.std.proofs.Common.{List, subst, arith, length, ◌+◌, ap, ◌∙◌, inl, inr}
+use Rattle.nor_bus.specs.Bus.{lane}
+use Rattle.nor_bus.specs.Driven.{Reaches}
+use Rattle.nor_bus.proofs.Driving.{went_then, lost_then, reaches_kept, lane_kept}
+use Rattle.nor_poll.specs.Codes.{after_cycles, DarkensIn, cycles_of}
+use Rattle.nor_poll.specs.Lock.{LosesLock, lock_command}
+use Rattle.nor_poll.specs.declared.codes.Command.TheVariants.{LeaveLocks}
+use Rattle.nor_poll.specs.declared.codes.Cycle.{Cycle}
+use Rattle.nor_poll.proofs.Reading.{on_err, asks_lost}
+use Rattle.nor_poll.proofs.Locking.{sets, loses_old, loses_new}
+use Rattle.nor_poll.proofs.locks.set_lock.Goals as goal
+
+pub returns-in_err-write_cycles-clause-loses : goal.returns-in_err-write_cycles-clause-loses
+returns-in_err-write_cycles-clause-loses g c =
+    let old = g.B.Bus.state c.args.bus.now in
+    let new = g.B.Bus.state c.write_cycles.new.bus in
+    let first = c.cycles_of.ensures ∙ ap (cycles_of c.args.set) c.lock_command.ensures in
+    on_err c.from_residual.result (Reaches g.W.BusWord.WIDTH c.args.g c.args.at old → LosesLock c.args.set c.args.at c.args.locked old new) (λ reaches. inl (λ k below.
+    loses_old c.args.set c.args.locked c.args.at (lane old k) (lane new k)
+    (subst (λ (l : List Cycle). DarkensIn c.args.at l (lane old k) (lane new k)) first (c.in_err-write_cycles.ensures.dark reaches k below))))
+
+pub returns-in_err-write_cycles-2-clause-loses : goal.returns-in_err-write_cycles-2-clause-loses
+returns-in_err-write_cycles-2-clause-loses g c =
+    let old = g.B.Bus.state c.args.bus.now in
+    let mid = g.B.Bus.state c.write_cycles.new.bus in
+    let new = g.B.Bus.state c.write_cycles-2.new.bus in
+    let kept = c.in_ok-write_cycles.ensures.went.kept in
+    let first = c.cycles_of.ensures ∙ ap (cycles_of c.args.set) c.lock_command.ensures in
+    on_err c.from_residual-in_err-write_cycles-2.result (Reaches g.W.BusWord.WIDTH c.args.g c.args.at old → LosesLock c.args.set c.args.at c.args.locked old new) (λ reaches. inr (λ k below.
+    loses_new c.args.set c.args.locked c.args.at (lane old k) (lane mid k) (lane new k)
+    (c.in_ok-write_cycles.ensures.lanes reaches k below ∙ ap (λ (l : List Cycle). after_cycles c.args.at l (lane old k)) first)
+    (subst (λ (l : List Cycle). DarkensIn c.args.at l (lane mid k) (lane new k)) c.cycles_of-2.ensures
+    (c.in_err-write_cycles-2.ensures.dark (reaches_kept g.W.BusWord.WIDTH c.args.g c.args.at old mid kept reaches) k (lane_kept old mid k kept below)))))
+
+pub returns-in_err-write_cycles-2-clause-cycles : goal.returns-in_err-write_cycles-2-clause-cycles
+returns-in_err-write_cycles-2-clause-cycles g c =
+    let old = g.B.Bus.state c.args.bus.now in
+    let mid = g.B.Bus.state c.write_cycles.new.bus in
+    let new = g.B.Bus.state c.write_cycles-2.new.bus in
+    let n = length c.cycles_of.result.now in
+    let m = length c.cycles_of-2.result.now in
+    let first = ap (λ (l : List Cycle). length l) (c.cycles_of.ensures ∙ ap (cycles_of c.args.set) c.lock_command.ensures) in
+    let second = ap (λ (l : List Cycle). length l) c.cycles_of-2.ensures in
+    let k = length (cycles_of c.args.set (lock_command c.args.locked)) + length (cycles_of c.args.set LeaveLocks) in
+    asks_lost k c.from_residual-in_err-write_cycles-2.result old new c.from_residual-in_err-write_cycles-2.ensures.0
+    (lost_then n n m k old mid new (omega (arith, first, second)) c.in_ok-write_cycles.ensures.went c.in_err-write_cycles-2.ensures.lost)
+
+pub returns-clause-locks : goal.returns-clause-locks
+returns-clause-locks g c = λ reaches k below.
+    let old = g.B.Bus.state c.args.bus.now in
+    let mid = g.B.Bus.state c.write_cycles.new.bus in
+    let new = g.B.Bus.state c.write_cycles-2.new.bus in
+    let kept = c.in_ok-write_cycles.ensures.went.kept in
+    let first = c.cycles_of.ensures ∙ ap (cycles_of c.args.set) c.lock_command.ensures in
+    sets c.args.set c.args.locked c.args.at (lane old k) (lane mid k) (lane new k)
+    (c.in_ok-write_cycles.ensures.lanes reaches k below ∙ ap (λ (l : List Cycle). after_cycles c.args.at l (lane old k)) first)
+    (c.in_ok-write_cycles-2.ensures.lanes (reaches_kept g.W.BusWord.WIDTH c.args.g c.args.at old mid kept reaches) k (lane_kept old mid k kept below)
+    ∙ ap (λ (l : List Cycle). after_cycles c.args.at l (lane mid k)) c.cycles_of-2.ensures)
+
+pub returns-clause-cycles : goal.returns-clause-cycles
+returns-clause-cycles g c =
+    let old = g.B.Bus.state c.args.bus.now in
+    let mid = g.B.Bus.state c.write_cycles.new.bus in
+    let new = g.B.Bus.state c.write_cycles-2.new.bus in
+    let n = length c.cycles_of.result.now in
+    let m = length c.cycles_of-2.result.now in
+    let first = ap (λ (l : List Cycle). length l) (c.cycles_of.ensures ∙ ap (cycles_of c.args.set) c.lock_command.ensures) in
+    let second = ap (λ (l : List Cycle). length l) c.cycles_of-2.ensures in
+    let k = length (cycles_of c.args.set (lock_command c.args.locked)) + length (cycles_of c.args.set LeaveLocks) in
+    went_then n n m m k k old mid new (omega (arith, first, second)) (omega (arith, first, second)) c.in_ok-write_cycles.ensures.went c.in_ok-write_cycles-2.ensures.went

@@ -1,8 +1,0 @@
-use Rattle.nor_cell.specs.Bits.{unit_len}
-use Rattle.nor_word.specs.Word.{lane_of}
-use Rattle.nor_poll.specs.Register.{status_says}
-use Rattle.nor_poll.proofs.Telling.{ToldUpTo}
-use Rattle.nor_poll.proofs.status.watch_of.Given as goal
-
-abbrev pub invariant-loop-lane : goal.invariant-loop-lane
-invariant-loop-lane g l = ToldUpTo l.lane (λ c. status_says (lane_of (unit_len l.fn.g.device) (g.W.BusWord.bytes l.word) c)) l.lanes

@@ -1,0 +1,19 @@
+use Rattle.std.proofs.Common.{false}
+use Rattle.norbank.specs.Words.{Script}
+use Rattle.norbank.proofs.Doing.{does_given, no_job, job_does}
+use Rattle.norbank.proofs.run.run.Goals as goal
+
+pub returns-in_err-job-clause-does : goal.returns-in_err-job-clause-does
+returns-in_err-job-clause-does g c =
+    let was = g.H.Shelf.state c.args.shelf.now in
+    let now = g.H.Shelf.state c.job_of.new.shelf in
+    let out = g.K.Sink.state c.args.out.now in
+    let stop = c.in_err-job.field-0.0 in
+    does_given (Script false c.args.image.now c.args.script.now) was now out out c.from_residual.result stop c.from_residual.ensures.1
+    (no_job false c.args.image.now c.args.script.now was now out stop c.job_of.ensures.same c.in_err-job.ensures.stops)
+
+pub returns-clause-does : goal.returns-clause-does
+returns-clause-does g c =
+    job_does false c.args.image.now c.args.script.now (g.H.Shelf.state c.args.shelf.now) c.in_ok-job.job c.in_ok-job.ensures.ready
+    (g.H.Shelf.state c.job_of.new.shelf) (g.H.Shelf.state c.run_job.new.shelf) (g.K.Sink.state c.args.out.now) (g.K.Sink.state c.run_job.new.out) c.run_job.result
+    c.job_of.ensures.same c.job_of.ensures.later c.run_job.ensures.runs

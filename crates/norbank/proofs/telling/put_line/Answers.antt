@@ -1,0 +1,11 @@
+use Rattle.std.proofs.Common.{◌++◌, codes}
+use Rattle.nor_io.proofs.Putting.{puts_then, puts_stop}
+use Rattle.norbank.proofs.telling.put_line.Goals as goal
+
+pub returns-in-Ok-clause-puts : goal.returns-in-Ok-clause-puts
+returns-in-Ok-clause-puts g c =
+    puts_then (c.args.head.now ++ c.args.tail.now) (codes "\n") (g.K.Sink.state c.args.out.now) (g.K.Sink.state c.put_both.new.out) (g.K.Sink.state c.put.new.self) c.put.result c.in-Ok.ensures.puts c.put_both.ensures.later c.put.ensures.puts
+
+pub returns-in-Err-clause-puts : goal.returns-in-Err-clause-puts
+returns-in-Err-clause-puts g c =
+    puts_stop (c.args.head.now ++ c.args.tail.now) (codes "\n") (g.K.Sink.state c.args.out.now) (g.K.Sink.state c.put_both.new.out) c.in-Err.error c.in-Err.ensures.puts
