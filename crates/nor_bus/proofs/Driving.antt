@@ -90,10 +90,15 @@ not_due : (power due : Bool) → (not power || due) ≡ false → due ≡ false
 not_due true due e = e
 not_due false due e = cc
 
+had_power : (power due : Bool) → (not power || due) ≡ false → power ≡ true
+had_power true due e = refl
+had_power false due e = cc
+
 -- one cycle
 pub went_one : (a b : BusState) → Passes a b → KeepsLanes a b → Went 1 1 a b
 went_one a b p k = record {
   power = λ on. p.power;
+  was_on = λ on. had_power a.power (is_now a.armed) p.allowed;
   on = λ some. p.power;
   armed = subst (λ (x : Option Armed). Nearer 1 1 a.armed x) (sym p.armed) (nearer_one a.armed (not_due a.power (is_now a.armed) p.allowed));
   enough = let e = p.cycles in omega arith;
@@ -106,6 +111,7 @@ went_one a b p k = record {
 pub went_none : (a : BusState) → Went 0 0 a a
 went_none a = record {
   power = λ on. on;
+  was_on = λ on. on;
   on = λ some. absurd (omega arith);
   armed = nearer_none a.armed;
   enough = omega arith;
@@ -127,6 +133,7 @@ on_then l m n o a b c x y (inr some) = y.power (x.on some)
 pub went_then : (l m n o k q : ℕ) (a b c : BusState) → k ≤ l + n → m + o ≤ q → Went l m a b → Went n o b c → Went k q a c
 went_then l m n o k q a b c ge le x y = record {
   power = λ on. y.power (x.power on);
+  was_on = λ on. x.was_on (y.was_on on);
   on = λ some. on_then l m n o a b c x y (some_of n l (omega (arith, some, ge)));
   armed = nearer_then l m n o k q a.armed b.armed c.armed ge le x.armed y.armed;
   enough = let p = x.enough in let r = y.enough in omega arith;

@@ -33,7 +33,9 @@ Nearer least most (Some old) None = ⊥
 
 -- All cycles of a call reached the chips: from `least` to `most` of them.
 pub record Went (least most : ℕ) (old new : BusState) : Type 0 where
+  -- power stays on, and none of them brings it back
   pub power : old.power ≡ true → new.power ≡ true
+  pub was_on : new.power ≡ true → old.power ≡ true
   -- a cycle that reached the chips shows that power is on
   pub on : 0 < least → new.power ≡ true
   pub armed : Nearer least most old.armed new.armed

@@ -9,7 +9,7 @@ use Rattle.nor_cell.proofs.Between.{same_fault, resets_broken}
 use Rattle.nor_cell.specs.declared.device.Set.{Set}
 use Rattle.nor_cell.specs.declared.device.Set.TheVariants.{Intel, Amd}
 use Rattle.nor_poll.specs.Losing.{Loses, LosesNone, Tears}
-use Rattle.nor_poll.specs.Reads.{AfterReads, WorksAfter, DarkensReading}
+use Rattle.nor_poll.specs.Reads.{AfterReads, WorksAfter, DarkAfter}
 use Rattle.nor_poll.specs.Rest.{SettlesUnbroken, settled, cleared_flags}
 use Rattle.nor_poll.specs.Wait.{WorksFor}
 use Rattle.nor_poll.proofs.Waiting.{IsEnded}
@@ -118,9 +118,9 @@ works_for kind p bytes left most s b begun free few n works =
     omega (arith, lt, few)
 
 -- a wait that was given up
-pub dark_begun : (kind : Set) (p : ℕ) (bytes : List ℕ) (left : ℕ) (s b t : ChipState) → Begun kind p bytes left s b → DarkensReading b t → Loses p bytes s t
-dark_begun kind p bytes left s b t begun dark =
-    dark_programs kind p bytes left dark.0 s dark.1.mid t (programs_read kind p bytes left dark.0 s b dark.1.mid begun dark.1.reads) dark.1.dark
+pub dark_begun : (kind : Set) (p : ℕ) (bytes : List ℕ) (left n : ℕ) (s b t : ChipState) → Begun kind p bytes left s b → DarkAfter n b t → Loses p bytes s t
+dark_begun kind p bytes left n s b t begun dark =
+    dark_programs kind p bytes left n s dark.mid t (programs_read kind p bytes left n s b dark.mid begun dark.reads) dark.dark
 
 pub tears_begun : (kind : Set) (p : ℕ) (bytes : List ℕ) (left n : ℕ) (s b t : ChipState) → Begun kind p bytes left s b → AfterReads b n t → Tears p bytes s t
 tears_begun kind p bytes left n s b t begun reads = tears kind p bytes left n s t (programs_read kind p bytes left n s b t begun reads)

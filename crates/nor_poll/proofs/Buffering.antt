@@ -18,7 +18,7 @@ use Rattle.nor_bus.specs.Driven.{Went, AllLanes}
 use Rattle.nor_bus.proofs.Driving.{went_then, lost_then, own_kept, there_kept, lane_kept}
 use Rattle.nor_poll.specs.Losing.{LosesNone}
 use Rattle.nor_poll.specs.Polled.{Answers, working_reads, polling_for}
-use Rattle.nor_poll.specs.Reads.{AfterReads, WorksAfter, DarkensReading}
+use Rattle.nor_poll.specs.Reads.{AfterReads, WorksAfter, DarkAfter}
 use Rattle.nor_poll.specs.Rest.{SettlesUnbroken}
 use Rattle.nor_poll.specs.Toggles.{ShowsToggle, ShowsDatum, EndsWith, IsProgramFault, names_job}
 use Rattle.nor_poll.proofs.Waiting.{IsEnded}
@@ -223,8 +223,8 @@ prompt_fits {W = W} set g new how n most bits is =
 
 -- ---- a wait that was given up
 
-dark_load : (kind : Set) (u n : ℕ) (bytes : List ℕ) (s b t : ChipState) → BeginsLoad kind u n bytes s b → DarkensReading b t → LosesLoad kind u n bytes s t
-dark_load kind u n bytes s b t begins dark takes = dark_begun kind (place s.part u) bytes (load_reads s) s b t (begun kind u n bytes s b takes begins) dark
+dark_load : (kind : Set) (u n reads : ℕ) (bytes : List ℕ) (s b t : ChipState) → BeginsLoad kind u n bytes s b → DarkAfter reads b t → LosesLoad kind u n bytes s t
+dark_load kind u n reads bytes s b t begins dark takes = dark_begun kind (place s.part u) bytes (load_reads s) reads s b t (begun kind u n bytes s b takes begins) dark
 
 tears_load : (kind : Set) (u n reads : ℕ) (bytes : List ℕ) (s b t : ChipState) → BeginsLoad kind u n bytes s b → AfterReads b reads t → TearsLoad kind u n bytes s t
 tears_load kind u n reads bytes s b t begins after takes = tears_begun kind (place s.part u) bytes (load_reads s) reads s b t (begun kind u n bytes s b takes begins) after
@@ -243,7 +243,7 @@ pub load_halts : {W : Type 0} (bytes_of : W → List ℕ) (how : Polling W) (kin
 load_halts bytes_of how kind width u a limit first g words old mid after Off fits same went begins at answers h = (
   lost_then first first (wait_most how limit) (load_most kind (length words) limit) old mid after fits went h.0,
   λ reaches k below.
-      dark_load kind u (length words) (load_of (lane old k).part.device k words) (lane old k) (lane mid k) (lane after k) (begins reaches k below) (h.1 k (lane_kept old mid k went.kept below)),
+      dark_load kind u (length words) h.1.reads (load_of (lane old k).part.device k words) (lane old k) (lane mid k) (lane after k) (begins reaches k below) (h.1.each k (lane_kept old mid k went.kept below)),
 )
 load_halts bytes_of how kind width u a limit first g words old mid after (Stuck k) fits same went begins at answers h =
     let n = length words in

@@ -13,7 +13,7 @@ use Rattle.nor_poll.specs.Erase.{TakesLook, LooksOn, ChangesWithinErase, next_st
 use Rattle.nor_bus.specs.Driven.{Darkens}
 use Rattle.nor_poll.specs.Polled.{Answers, most_reads, viewed}
 use Rattle.nor_poll.specs.declared.polling.Polling.{Polling}
-use Rattle.nor_poll.specs.Reads.{AfterReads, DarkensReading}
+use Rattle.nor_poll.specs.Reads.{AfterReads, DarkAfter}
 use Rattle.nor_poll.specs.Told.{ToldAt, HasLeft}
 use Rattle.nor_poll.specs.Toggles.{names_job, EndsAt}
 use Rattle.nor_poll.specs.UnderErase.{LaneIs, ErasesOn, HasEnded, IsErased, IsTorn, IsUntold, ShowsErase, tells_broken, erase_left, held_left}
@@ -26,7 +26,7 @@ use Rattle.nor_poll.specs.declared.watch.Seen.TheVariants.{Working, Ready, Suspe
 use Rattle.nor_poll.proofs.Codes1.{shows_idle, shows_busy}
 use Rattle.nor_poll.proofs.Waiting.{part_after}
 use Rattle.nor_poll.proofs.Programming.{toggling}
-use Rattle.nor_poll.proofs.Erasing.{StillErases, HasErased, Erases, erases_after, breaks_off, broke, idle_after, outcome, next_idle, SeesErase, sees_erase, within_still, within_ended, within_idle, within_none, dark_within}
+use Rattle.nor_poll.proofs.Erasing.{left_dark, StillErases, HasErased, Erases, erases_after, breaks_off, broke, idle_after, outcome, next_idle, SeesErase, sees_erase, within_still, within_ended, within_idle, within_none, dark_within}
 
 -- ---- the status is shown
 
@@ -111,6 +111,7 @@ pub record IsRead (set : Set) (target : Target) (n : ℕ) (s t : ChipState) : Ty
   pub fewer : s.part.stuck ≡ false → 0 < erase_left s → erase_left t < erase_left s
   pub most : erase_left t ≤ erase_left s
   pub few : erase_left s ≤ erase_left t + n
+  pub still : runs t.job ≡ true → t.cells ≡ s.cells
 
 -- Where a lane that ran is then: it erases on, or has ended, and had fewer reads left than were made.
 abbrev pub RanTo : Target → ℕ → ChipState → ChipState → Type 0
@@ -151,6 +152,7 @@ read_idle set target n mode s t waits names same job held is =
       fewer = λ free some. absurd (omega (arith, some, before));
       most = omega (arith, after);
       few = omega (arith, before);
+      still = λ on. ap (λ (x : ChipState). x.cells) is;
     }
 
 -- of a chip that erases on
@@ -171,6 +173,7 @@ read_still set target left n mode s t some waits names same job held still =
       fewer = λ free had. let k = still.count free in omega (arith, some, k, before, after);
       most = omega (arith, down, before, after);
       few = omega (arith, most, before, after);
+      still = λ on. ap (λ (x : ChipState). x.cells) is;
     }
 
 -- of a chip whose erase has ended
@@ -197,6 +200,7 @@ read_ended set target left n mode s t waits names same job held ended =
       fewer = λ free had. omega (arith, had, after);
       most = omega (arith, after);
       few = omega (arith, over, before, after);
+      still = λ on. absurd (let no : true ≡ false = sym on ∙ ap (λ (x : ChipState). runs x.job) is in cc);
     }
 
 read_erasing : (set : Set) (target : Target) (n : ℕ) (mode : Mode) (s t : ChipState) → 0 < n → TakesLook set target Running s → (set ≡ Amd → mode ≡ s.mode) → (on : ErasesOn target s) → s.held ≡ NotHeld
@@ -284,6 +288,11 @@ ran_ended set target n mode s t some set_is status held ended is =
 
 -- ---- a look
 
+-- a lane that ran goes on to show its erase
+shows_ran : (set : Set) (target : Target) (n : ℕ) (s t : ChipState) → t.part.set ≡ set → RanTo target n s t → ShowsErase set t
+shows_ran set target n s t is (inl on) = subst (λ (k : Set). ShowsErase k t) is on.shows
+shows_ran set target n s t is (inr ended) = subst (λ (k : Set). ShowsErase k t) is ended.0.shows
+
 -- it works on
 looks_on_working : (set : Set) (target : Target) (n : ℕ) (s t : ChipState) → IsRead set target n s t → RanTo target n s t → HasLeft s → LooksOn set target Running Running n s t
 looks_on_working set target n s t read ran left = record {
@@ -291,6 +300,8 @@ looks_on_working set target n s t read ran left = record {
   keeps = read.keeps;
   others = λ apart. absurd (apart refl);
   works = λ e f. left;
+  still = read.still;
+  shows = shows_ran set target n s t read.waits.set ran;
   fewer = read.fewer;
   few = read.few;
   ends = λ e apart. absurd (apart refl);
@@ -330,6 +341,8 @@ looks_on_ended set target n s t read (inr ended) idle =
       keeps = read.keeps;
       others = λ apart. absurd (apart refl);
       works = λ e f. absurd (ended_over b f);
+      still = read.still;
+      shows = subst (λ (k : Set). ShowsErase k t) read.waits.set ended.0.shows;
       fewer = read.fewer;
       few = read.few;
       ends = λ e apart. ended.1;
@@ -356,9 +369,9 @@ lane_stays Suspended target s t ran awake is part cells job held = absurd (awake
 lane_stays Finished target s t ran awake is part cells job held = (erased_still target s t part cells is.0, record { job = job; held = held })
 lane_stays Broken target s t ran awake is part cells job held = (torn_still target s t part is.0, record { job = job; held = held })
 
-looks_other : (set : Set) (target : Target) (n : ℕ) (state : LaneState) (mode : Mode) (s t : ChipState) → state ≢ Running → TakesLook set target state s → IsRead set target n s t → t ≡ toggling t.toggle_6 t.toggle_2 (record s { mode = mode; job = Idle })
+looks_other : (set : Set) (target : Target) (n : ℕ) (state : LaneState) (mode : Mode) (s t : ChipState) → state ≢ Running → (set ≡ Intel → mode ≡ Status) → TakesLook set target state s → IsRead set target n s t → t ≡ toggling t.toggle_6 t.toggle_2 (record s { mode = mode; job = Idle })
     → LooksOn set target state state n s t
-looks_other set target n state mode s t ran takes read is =
+looks_other set target n state mode s t ran status takes read is =
     let cells = ap (λ (x : ChipState). x.cells) is in
     record {
       next = record {
@@ -370,6 +383,8 @@ looks_other set target n state mode s t ran takes read is =
       keeps = read.keeps;
       others = λ apart. (refl, cells);
       works = λ e f. absurd (ran e);
+      still = read.still;
+      shows = shows_erase set mode t status (ap (λ (x : ChipState). x.mode) is);
       fewer = read.fewer;
       few = read.few;
       ends = λ e f. absurd (ran e);
@@ -387,10 +402,10 @@ looks_at set target u n it mode Running y s t sees some takes status same reads 
 looks_at set target u n it mode Suspended y s t sees some takes status same reads told is = absurd (takes.awake refl)
 looks_at set target u n it mode Finished y s t sees some takes status same reads told is =
     let e = idle_after (record s { mode = mode }) n t is.1.job reads in
-    looks_other set target n Finished mode s t (λ e. cc) takes (read_idle set target n mode s t takes.waits takes.names same is.1.job is.1.held e) e
+    looks_other set target n Finished mode s t (λ e. cc) status takes (read_idle set target n mode s t takes.waits takes.names same is.1.job is.1.held e) e
 looks_at set target u n it mode Broken y s t sees some takes status same reads told is =
     let e = idle_after (record s { mode = mode }) n t is.1.job reads in
-    looks_other set target n Broken mode s t (λ e. cc) takes (read_idle set target n mode s t takes.waits takes.names same is.1.job is.1.held e) e
+    looks_other set target n Broken mode s t (λ e. cc) status takes (read_idle set target n mode s t takes.waits takes.names same is.1.job is.1.held e) e
 
 pub looks_on : {W : Type 0} (how : Polling W) (set : Set) (target : Target) (u n : ℕ) (it : Seen) (state : LaneState) (s m t : ChipState) → how ≡ erase_polling set → 0 < n → TakesLook set target state s → ShownAs set s m → AfterReads m n t → ToldAt u m it (viewed how t)
     → LooksOn set target state (next_state state it) n s t
@@ -416,10 +431,30 @@ dark_read target n s m t (inl on) mode reads dark = within_mode target mode s t 
     dark_erase target left n x m t job (inr ended) dark =
         dark_within target x m t (within_ended target left n x m job ended) (no_program m.job target 0 (inr (ap (λ (y : ChipState). y.job) ended.is))) dark
 
-pub loses_reads : (set : Set) (target : Target) (state : LaneState) (s m t : ChipState) → TakesLook set target state s → ShownAs set s m → DarkensReading m t → ChangesWithinErase target s t
-loses_reads set target state s m t takes now dark =
+pub loses_reads : (set : Set) (target : Target) (state : LaneState) (n : ℕ) (s m t : ChipState) → TakesLook set target state s → ShownAs set s m → DarkAfter n m t → ChangesWithinErase target s t
+loses_reads set target state n s m t takes now dark =
     let h = stands state target s takes.is takes.awake in
-    dark_read target dark.0 s dark.1.mid t h.0 now.mode (subst (λ (x : ChipState). AfterReads x dark.0 dark.1.mid) now.is dark.1.reads) dark.1.dark
+    dark_read target n s dark.mid t h.0 now.mode (subst (λ (x : ChipState). AfterReads x n dark.mid) now.is dark.reads) dark.dark
+
+-- n reads took at most n of the reads that it had left
+few_at : (target : Target) (n : ℕ) (s m : ChipState) (mode : Mode) → ErasesOn target s ⊎ (s.job ≡ Idle) → s.held ≡ NotHeld → AfterReads (record s { mode = mode }) n m → erase_left s ≤ erase_left m + n
+few_at target n s m mode (inr idle) held reads = let before = none_of s.job s.held idle held in omega (arith, before)
+few_at target n s m mode (inl on) held reads = few_erased target on.left n s m mode (left_of s.job s.held target on.left on.job held) held (erases_after target on.left (record s { mode = mode }) n m on.job reads)
+  where
+    few_erased : (target : Target) (left n : ℕ) (s m : ChipState) (mode : Mode) → erase_left s ≡ left → s.held ≡ NotHeld → Erases target left n (record s { mode = mode }) m → erase_left s ≤ erase_left m + n
+    few_erased target left n s m mode before held (inl still) =
+        let after = left_of m.job m.held target still.left (ap (λ (y : ChipState). y.job) still.is) (ap (λ (y : ChipState). y.held) still.is ∙ held) in
+        let most = still.most in
+        omega (arith, most, before, after)
+    few_erased target left n s m mode before held (inr ended) = let over = ended.over in omega (arith, over, before)
+
+-- so it is where power went then
+pub few_reads : (set : Set) (target : Target) (state : LaneState) (n most : ℕ) (s m t : ChipState) → n ≤ most → TakesLook set target state s → ShownAs set s m → DarkAfter n m t → erase_left s ≤ erase_left t + most
+few_reads set target state n most s m t le takes now dark =
+    let h = stands state target s takes.is takes.awake in
+    let few = few_at target n s dark.mid now.mode h.0 h.1 (subst (λ (x : ChipState). AfterReads x n dark.mid) now.is dark.reads) in
+    let same = left_dark dark.mid t dark.dark in
+    omega (arith, le, few, same)
 
 dark_first : (target : Target) (s t : ChipState) → (ErasesOn target s ⊎ (s.job ≡ Idle)) → Darkens s t → ChangesWithinErase target s t
 dark_first target s t (inl on) dark = dark_within target s s t (within_none target s) (no_program s.job target on.left (inl on.job)) dark
@@ -433,6 +468,9 @@ first_dark Amd u s t dark = absurd dark
 pub loses_showing_status : (set : Set) (u : ℕ) (target : Target) (state : LaneState) (s t : ChipState) → TakesLook set target state s → DarkensIn u (cycles_of set ShowStatus) s t → ChangesWithinErase target s t
 loses_showing_status set u target state s t takes dark =
     let h = stands state target s takes.is takes.awake in dark_first target s t h.0 (first_dark set u s t dark)
+
+pub few_showing_status : (set : Set) (u most : ℕ) (s t : ChipState) → DarkensIn u (cycles_of set ShowStatus) s t → erase_left s ≤ erase_left t + most
+few_showing_status set u most s t dark = let same = left_dark s t (first_dark set u s t dark) in omega (arith, same)
 
 -- the polls of an erase, by the one that was chosen
 pub answers_by : {W : Type 0} (bytes : W → List ℕ) (how : Polling W) (set : Set) (u c : ℕ) (target : Target) (state : LaneState) (s m : ChipState) → how ≡ erase_polling set → TakesLook set target state s → ShownAs set s m

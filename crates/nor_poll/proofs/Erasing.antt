@@ -303,6 +303,10 @@ fault_still target s m t e (inr h) = inr (h.0, e ∙ h.1)
 pub left_cut : (m t : ChipState) → t ≡ record m { cells = t.cells } → erase_left t ≡ erase_left m
 left_cut m t e = ap erase_left e
 
+pub left_dark : (m t : ChipState) → Darkens m t → erase_left t ≡ erase_left m
+left_dark m t (inl same) = ap erase_left same
+left_dark m t (inr cut) = left_cut m t cut.rest
+
 -- then power went, while nothing was programmed
 cut_within : (target : Target) (s m t : ChipState) → ChangesWithinErase target s m → ((p : ℕ) → programs_at m.job p ≡ false) → Cuts m t → ChangesWithinErase target s t
 cut_within target s m t h idle cut =

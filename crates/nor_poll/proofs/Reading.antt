@@ -1,12 +1,17 @@
 -- Any number of status reads.
-use Rattle.std.proofs.Common.{◌≡◌, ◌≢◌, ◌+◌, ◌≤◌, inl, inr, ℕ, suc, refl, sym, ap, subst, ◌∙◌, arith, Bool, true, false, add-one, Result, Ok, Err, OnErr, IsErr}
+use Rattle.std.proofs.Common.{◌≡◌, ◌≢◌, ◌+◌, ◌≤◌, inl, inr, ℕ, suc, refl, sym, ap, subst, ◌∙◌, arith, Bool, true, false, add-one, Result, Ok, Err, OnErr, IsErr, ◌<◌, List}
 use Rattle.nor_cell.specs.Chip.{ChipState, Idle, runs, is_held}
-use Rattle.nor_bus.specs.Bus.{BusState, chip_at, lane}
-use Rattle.nor_bus.specs.Cycles.{BusFails}
+use Rattle.nor_bus.specs.Bus.{BusState, chip_at, lane, lanes_of}
+use Rattle.nor_bus.specs.Cycles.{BusFails, KeepsLanes}
 use Rattle.nor_bus.specs.Driven.{Went, Lost, EachLane, Darkens, Asks}
 use Rattle.nor_bus.proofs.Driving.{went_then, lost_then, lane_kept}
 use Rattle.nor_poll.specs.Told.{IsLooked, ShowsStatus, Told}
-use Rattle.nor_poll.specs.Reads.{AfterReads, NoReads, OneMore, ReadBy, DarkensReading}
+use Rattle.nor_poll.specs.Reads.{AfterReads, NoReads, OneMore, ReadBy, EachSent, EachRead, DarkAfter, DarkensAfter, DarkensReading}
+use Rattle.nor_poll.specs.Losing.{DarkensEnding, DarkensResting, DarkensPolling}
+use Rattle.nor_cell.specs.declared.device.Set.{Set}
+use Rattle.nor_poll.specs.Codes.{DarkensIn, cycles_of}
+use Rattle.nor_poll.specs.declared.codes.Command.TheVariants.{ShowArray, ClearErrors}
+use Rattle.nor_poll.specs.declared.codes.Cycle.{Cycle}
 use Rattle.nor_poll.specs.declared.watch.Seen.{Seen}
 use Rattle.nor_poll.specs.declared.watch.Seen.TheVariants.{Working}
 use Rattle.nor_poll.proofs.Telling.{working_runs, idle_if}
@@ -76,10 +81,64 @@ read_then l m n o k q a b c ge le x y =
 pub lost_reading : (l m o q : ℕ) (a b c : BusState) → m + o ≤ q → ReadBy l m a b → Lost o b c → Lost q a c
 lost_reading l m o q a b c le x lost = let s = x.few in lost_then x.reads x.reads o q a b c (omega (arith, le, s)) x.went lost
 
-pub dark_now : (a b : BusState) → EachLane Darkens a b → EachLane DarkensReading a b
-dark_now a b dark = λ c below. (0, record { mid = lane a c; reads = NoReads; dark = dark c below })
+pub dark_now : (a b : BusState) → EachLane Darkens a b → DarkensReading 1 a b
+dark_now a b dark = record {
+  reads = 0;
+  few = omega arith;
+  each = λ c below. record { mid = lane a c; reads = NoReads; dark = dark c below };
+}
 
-pub dark_then : (l m : ℕ) (a b c : BusState) → ReadBy l m a b → EachLane DarkensReading b c → EachLane DarkensReading a c
-dark_then l m a b c x dark = λ i below.
-    let d = dark i (lane_kept a b i x.went.kept below) in
-    (x.reads + d.0, record { mid = d.1.mid; reads = after_then (lane a i) x.reads (lane b i) d.0 d.1.mid (x.each i below) d.1.reads; dark = d.1.dark })
+pub dark_then : (l m o q : ℕ) (a b c : BusState) → m + o ≤ q → ReadBy l m a b → DarkensReading o b c → DarkensReading q a c
+dark_then l m o q a b c le x dark =
+    let s = x.few in
+    let t = dark.few in
+    record {
+      reads = x.reads + dark.reads;
+      few = omega (arith, le, s, t);
+      each = λ i below.
+          let d = dark.each i (lane_kept a b i x.went.kept below) in
+          record { mid = d.mid; reads = after_then (lane a i) x.reads (lane b i) dark.reads d.mid (x.each i below) d.reads; dark = d.dark };
+    }
+
+-- as many reads as may be, after what was sent
+pub dark_sent : (sent : ℕ → ChipState → ChipState) (n most : ℕ) (a b c : BusState) → n ≤ most → KeepsLanes a b → EachSent sent a b → DarkensReading n b c
+    → DarkensAfter sent most a c
+dark_sent sent n most a b c le kept was dark =
+    let s = dark.few in
+    record {
+      reads = dark.reads;
+      few = omega (arith, le, s);
+      each = λ i below. subst (λ (x : ChipState). DarkAfter dark.reads x (lane c i)) (was i below) (dark.each i (lane_kept a b i kept below));
+    }
+
+-- and the last codes after them
+pub dark_at_end : (sent : ℕ → ChipState → ChipState) (n most u : ℕ) (last : List Cycle) (a b c d : BusState) → n ≤ most → KeepsLanes a b → EachSent sent a b
+    → ReadBy 1 n b c → EachLane (DarkensIn u last) c d → DarkensEnding sent most u last a d
+dark_at_end sent n most u last a b c d le kept was read dark =
+    let s = read.few in
+    record {
+      reads = read.reads;
+      few = omega (arith, le, s);
+      each = λ i below.
+          let there = lane_kept a b i kept below in
+          record {
+            mid = lane c i;
+            read = subst (λ (x : ChipState). AfterReads x read.reads (lane c i)) (was i below) (read.each i there);
+            dark = dark i (lane_kept b c i read.went.kept there);
+          };
+    }
+
+-- and the end of a program
+pub dark_resting : (sent : ℕ → ChipState → ChipState) (n most : ℕ) (set : Set) (u : ℕ) (a b c d : BusState) → n ≤ most → KeepsLanes a b → EachSent sent a b → ReadBy 1 n b c → DarkensResting set u c d
+    → DarkensPolling sent most set u a d
+dark_resting sent n most set u a b c d le kept was read (inl dark) = inr (inl (dark_at_end sent n most u (cycles_of set ShowArray) a b c d le kept was read dark))
+dark_resting sent n most set u a b c d le kept was read (inr dark) = inr (inr (dark_at_end sent n most u (cycles_of set ClearErrors) a b c d le kept was read dark))
+
+-- just so many reads of what was sent
+pub read_sent : (sent : ℕ → ChipState → ChipState) (n k : ℕ) (a b c : BusState) → n ≡ k → KeepsLanes a b → EachSent sent a b → ReadBy n n b c → EachRead sent k a c
+read_sent sent n k a b c same kept was read = λ i below.
+    let p = read.enough in
+    let q = read.few in
+    let count : read.reads ≡ k = omega (arith, p, q, same) in
+    subst (λ (m : ℕ). AfterReads (sent i (lane a i)) m (lane c i)) count
+    (subst (λ (x : ChipState). AfterReads x read.reads (lane c i)) (was i below) (read.each i (lane_kept a b i kept below)))

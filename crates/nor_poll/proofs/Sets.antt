@@ -17,7 +17,7 @@ use Rattle.nor_cell.specs.Between.{AtRest, IsClear, reset}
 use Rattle.nor_poll.specs.Losing.{LosesNone}
 use Rattle.nor_poll.specs.Toggles.{ShowsToggle, ShowsDatum, IsProgramFault}
 use Rattle.nor_poll.specs.Wait.{wait_most, wait_prompt}
-use Rattle.nor_poll.specs.Word.{TakesProgram, BeginsWord, LosesWord, programming, word_most, word_prompt, word_stuck}
+use Rattle.nor_poll.specs.Word.{TakesProgram, BeginsWord, LosesWord, programming, word_most, word_prompt, word_stuck, program_reads, working_at_each}
 use Rattle.nor_poll.specs.Words.{word_reads}
 use Rattle.nor_poll.specs.declared.polling.Polling.{Polling}
 use Rattle.nor_poll.specs.declared.polling.Polling.TheVariants.{Toggle, Data}
@@ -151,13 +151,15 @@ pub record WordFits (set : Set) (limit most stuck : ℕ) : Type 0 where
   pub shown : (bits : ℕ) → length (cycles_of set ProgramWord) + 1 + most + (length (cycles_of set ShowArray) + min bits 1) ≤ word_most set limit
   pub least : (bits : ℕ) → 5 ≤ length (cycles_of set ProgramWord) + 1 + 1 + (length (cycles_of set ShowArray) + min bits 1)
   pub stuck_at : length (cycles_of set ProgramWord) + 1 + stuck ≡ word_stuck set limit
+  pub reads : most ≤ program_reads set limit
+  pub works : stuck ≡ working_at_each set limit
 
 fits_amd : {W : Type 0} (new : W) (one : Bool) (limit : ℕ) → WordFits Amd limit (wait_most (if one then Data new else Toggle) limit) (working_reads (if one then Data new else Toggle) * limit)
-fits_amd new true limit = record { begun = omega arith; shown = λ bits. omega arith; least = λ bits. omega arith; stuck_at = omega arith }
-fits_amd new false limit = record { begun = omega arith; shown = λ bits. omega arith; least = λ bits. omega arith; stuck_at = omega arith }
+fits_amd new true limit = record { begun = omega arith; shown = λ bits. omega arith; least = λ bits. omega arith; stuck_at = omega arith; reads = omega arith; works = omega arith }
+fits_amd new false limit = record { begun = omega arith; shown = λ bits. omega arith; least = λ bits. omega arith; stuck_at = omega arith; reads = omega arith; works = omega arith }
 
 fits_own : {W : Type 0} (set : Set) (g : Geometry) (new : W) (limit : ℕ) → WordFits set limit (wait_most (polling_for set g new) limit) (working_reads (polling_for set g new) * limit)
-fits_own Intel g new limit = record { begun = omega arith; shown = λ bits. omega arith; least = λ bits. omega arith; stuck_at = omega arith }
+fits_own Intel g new limit = record { begun = omega arith; shown = λ bits. omega arith; least = λ bits. omega arith; stuck_at = omega arith; reads = omega arith; works = omega arith }
 fits_own Amd g new limit = fits_amd new (g.lanes == 1) limit
 
 pub word_fits : {W : Type 0} (set : Set) (g : Geometry) (new : W) (how : Polling W) (limit : ℕ) → how ≡ polling_for set g new → WordFits set limit (wait_most how limit) (working_reads how * limit)

@@ -8,7 +8,7 @@ use Rattle.nor_poll.specs.Codes.{after_cycle, code, cycles_of, DarkensIn}
 use Rattle.nor_poll.specs.Erase.{ChangesWithinErase, erase_polling}
 use Rattle.nor_bus.specs.Driven.{Darkens}
 use Rattle.nor_poll.specs.Polled.{Answers, working_reads}
-use Rattle.nor_poll.specs.Reads.{AfterReads, NoReads, DarkensReading, WorksAfter}
+use Rattle.nor_poll.specs.Reads.{AfterReads, NoReads, DarkAfter, WorksAfter}
 use Rattle.nor_poll.specs.Suspend.{TakesSuspend, ChangesInSuspend, HoldsAfter, pauses, suspend_polls, suspend_reads, stuck_reads}
 use Rattle.nor_poll.specs.Told.{HasLeft}
 use Rattle.nor_poll.specs.Toggles.{EndsAt}
@@ -68,7 +68,7 @@ dark_stands b s m t h (inr cut) = cut_stands b s m t h cut
 
 -- ---- chips that stand so
 
-abbrev Free : ℕ → Held → Type 0
+abbrev pub Free : ℕ → Held → Type 0
 Free b held = (held ≡ NotHeld) ⊎ (holds_target held (OneBlock b) ≡ true)
 
 pub same_in : (b : ℕ) (s m : ChipState) → m.part ≡ s.part → m.locks ≡ s.locks → m.erases ≡ s.erases → m.cells ≡ s.cells → m.flags ≡ s.flags → m.fault ≡ s.fault
@@ -197,8 +197,8 @@ stands_as b n s mode job t (Stops {left = left} was none long free more) reads =
 pub stands_read : (set : Set) (b n : ℕ) (s m t : ChipState) → IsAsked set b s m → AfterReads m n t → StandsIn b s t
 stands_read set b n s m t now reads = stands_as b n s now.mode now.job t now.asked (subst (λ (x : ChipState). AfterReads x n t) now.is reads)
 
-pub loses_waiting : (set : Set) (b : ℕ) (s m t : ChipState) → IsAsked set b s m → DarkensReading m t → ChangesInSuspend b s t
-loses_waiting set b s m t now dark = dark_stands b s dark.1.mid t (stands_read set b dark.0 s m dark.1.mid now dark.1.reads) dark.1.dark
+pub loses_waiting : (set : Set) (b n : ℕ) (s m t : ChipState) → IsAsked set b s m → DarkAfter n m t → ChangesInSuspend b s t
+loses_waiting set b n s m t now dark = dark_stands b s dark.mid t (stands_read set b n s m dark.mid now dark.reads) dark.dark
 
 -- a cycle of the suspend command failed
 pub loses_asking : (set : Set) (u b : ℕ) (state : LaneState) (s t : ChipState) → TakesSuspend set u b state s → DarkensIn u (cycles_of set SuspendErase) s t → ChangesInSuspend b s t

@@ -13,11 +13,12 @@ use Rattle.nor_bus.specs.Driven.{Reaches, Went, AllLanes, Counted, Darkens, Each
 use Rattle.nor_bus.proofs.Driving.{went_then, lost_then, reaches_kept, lane_kept}
 use Rattle.nor_poll.specs.Losing.{Loses, LosesNone}
 use Rattle.nor_poll.specs.Polled.{Answers, working_reads}
-use Rattle.nor_poll.specs.Reads.{AfterReads, WorksAfter, ReadBy, DarkensReading}
+use Rattle.nor_poll.specs.Reads.{AfterReads, WorksAfter, ReadBy, DarkAfter, EachSent}
 use Rattle.nor_poll.specs.Rest.{SettlesUnbroken}
 use Rattle.nor_poll.proofs.Waiting.{IsEnded}
 use Rattle.nor_poll.specs.Wait.{WorksFor, WaitHalts, wait_most}
-use Rattle.nor_poll.specs.Word.{TakesProgram, BeginsWord, ProgramsWord, LosesWord, TearsWord, TellsBroken, EndsWithin, IsStuckBy, WordHalts, is_broken, word_most, word_stuck}
+use Rattle.nor_poll.specs.Word.{TakesProgram, BeginsWord, ProgramsWord, LosesWord, TearsWord, TellsBroken, EndsWithin, IsStuckBy, WordHalts, is_broken, word_most, word_stuck, word_sent, program_reads, working_at_each}
+use Rattle.nor_poll.proofs.Reading.{dark_sent, read_sent}
 use Rattle.nor_poll.specs.Words.{word_reads}
 use Rattle.nor_poll.specs.declared.lanes.Halt.{Halt}
 use Rattle.nor_poll.specs.declared.lanes.Halt.TheVariants.{Off, Stuck}
@@ -97,8 +98,8 @@ counted_word first least polls most end low high old mid last new ge le same beg
 
 -- ---- a wait that was given up
 
-dark_word : (kind : Set) (u v : ℕ) (s b t : ChipState) → BeginsWord kind u v s b → DarkensReading b t → LosesWord kind u v s t
-dark_word kind u v s b t begins dark takes = dark_begun kind (place s.part u) (bytes_of v s) (word_reads s) s b t (begun kind u v s b takes begins) dark
+dark_word : (kind : Set) (u v n : ℕ) (s b t : ChipState) → BeginsWord kind u v s b → DarkAfter n b t → LosesWord kind u v s t
+dark_word kind u v n s b t begins dark takes = dark_begun kind (place s.part u) (bytes_of v s) (word_reads s) n s b t (begun kind u v s b takes begins) dark
 
 tears_word : (kind : Set) (u v n : ℕ) (s b t : ChipState) → BeginsWord kind u v s b → AfterReads b n t → TearsWord kind u v s t
 tears_word kind u v n s b t begins reads takes = tears_begun kind (place s.part u) (bytes_of v s) (word_reads s) n s b t (begun kind u v s b takes begins) reads
@@ -120,13 +121,15 @@ pub word_halts : {W : Type 0} (bytes : W → List ℕ) (how : Polling W) (kind :
     → first + wait_most how limit ≤ word_most kind limit → first + working_reads how * limit ≡ word_stuck kind limit → Went first first old mid
     → (Reaches width g u old → EachPart word (BeginsWord kind u) old mid)
     → (Reaches width g u old → (c : ℕ) → c < lanes_of old → TakesProgram kind u (lane old c) → Answers bytes how u c (lane mid c))
+    → (Reaches width g u old → EachSent (word_sent kind u word) old mid) → wait_most how limit ≤ program_reads kind limit → working_reads how * limit ≡ working_at_each kind limit
     → WaitHalts width bytes g how u limit mid after halt → WordHalts kind width g u word limit old after halt
-word_halts bytes how kind width u limit first g word old mid after Off fits same went begins answers h = (
+word_halts bytes how kind width u limit first g word old mid after Off fits same went begins answers sent most works h = (
   lost_then first first (wait_most how limit) (word_most kind limit) old mid after fits went h.0,
   λ reaches k below.
-      dark_word kind u (lane_of (wide (lane old k)) word k) (lane old k) (lane mid k) (lane after k) (begins reaches k below) (h.1 k (lane_kept old mid k went.kept below)),
+      dark_word kind u (lane_of (wide (lane old k)) word k) h.1.reads (lane old k) (lane mid k) (lane after k) (begins reaches k below) (h.1.each k (lane_kept old mid k went.kept below)),
+  λ reaches. inr (inl (dark_sent (word_sent kind u word) (wait_most how limit) (program_reads kind limit) old mid after most went.kept (sent reaches) h.1)),
 )
-word_halts bytes how kind width u limit first g word old mid after (Stuck n) fits same went begins answers h =
+word_halts bytes how kind width u limit first g word old mid after (Stuck n) fits same went begins answers sent most works h =
     let polls = working_reads how * limit in
     let reads = h.1 in (
       h.0,
@@ -139,4 +142,5 @@ word_halts bytes how kind width u limit first g word old mid after (Stuck n) fit
           let below = subst (λ (m : ℕ). n < m) (sym reaches.own.count) h.0 in
           stuck_word kind u (lane_of (wide (lane old n)) word n) (polls - working_reads how) limit (lane old n) (lane mid n) (begins reaches n below) (enough_polls how limit)
           (λ takes some. h.2 now.own now.there some (answers reaches n below takes)),
+      λ reaches. read_sent (word_sent kind u word) polls (working_at_each kind limit) old mid after works went.kept (sent reaches) reads,
     )

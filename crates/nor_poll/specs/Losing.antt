@@ -4,9 +4,13 @@ use Rattle.nor_cell.specs.Bits.{IsBetween}
 use Rattle.nor_cell.specs.Chip.{ChipState, Idle}
 use Rattle.nor_cell.specs.Power.{is_erasing_at}
 use Rattle.nor_cell.specs.Steps.{Remains}
-use Rattle.nor_poll.specs.Codes.{after_cycles, DarkensIn}
-use Rattle.nor_poll.specs.Reads.{AfterReads, DarkensReading}
+use Rattle.nor_cell.specs.declared.device.Set.{Set}
+use Rattle.nor_bus.specs.Bus.{BusState, lane, lanes_of}
+use Rattle.nor_bus.specs.Driven.{EachLane}
+use Rattle.nor_poll.specs.Codes.{after_cycles, cycles_of, DarkensIn}
+use Rattle.nor_poll.specs.Reads.{AfterReads, DarkensAfter}
 use Rattle.nor_poll.specs.declared.codes.Cycle.{Cycle}
+use Rattle.nor_poll.specs.declared.codes.Command.TheVariants.{ShowArray, ClearErrors}
 
 -- The chip is what it was, with its locks, its held erase and both counts, and no erase error came up.
 pub record IsUnmoved (s t : ChipState) : Type 0 where
@@ -41,17 +45,36 @@ BeginsNone Was s t = Was s → Loses 0 [] s t × (t.job ≡ Idle)
 
 -- ---- which cycles had reached the chip
 
--- Power went while these codes were written, or in the reads after them.
-abbrev pub DarkensLooking : ℕ → List Cycle → ChipState → ChipState → Type 0
-DarkensLooking u first s t = DarkensIn u first s t ⊎ DarkensReading (after_cycles u first s) t
+-- Power went while these codes were written, or in the reads after them, at most so many.
+abbrev pub DarkensLooking : ℕ → List Cycle → ℕ → BusState → BusState → Type 0
+DarkensLooking u first most old new = EachLane (DarkensIn u first) old new ⊎ DarkensAfter (λ c s. after_cycles u first s) most old new
 
--- Power went while the last codes were written, after the first ones and some reads.
-pub record DarkensEnding (u : ℕ) (first last : List Cycle) (s t : ChipState) : Type 0 where
-  pub reads : ℕ
+-- Power went while these codes were written, after so many reads.
+pub record DarkAtEnd (reads u : ℕ) (last : List Cycle) (s t : ChipState) : Type 0 where
   pub mid : ChipState
-  pub read : AfterReads (after_cycles u first s) reads mid
+  pub read : AfterReads s reads mid
   pub dark : DarkensIn u last mid t
 
--- Power went in a call that writes the first codes, reads, and writes the last.
-abbrev pub DarkensCall : ℕ → (first last : List Cycle) → ChipState → ChipState → Type 0
-DarkensCall u first last s t = DarkensLooking u first s t ⊎ DarkensEnding u first last s t
+-- So it is with each lane, after what was sent to it, and as many reads of each.
+pub record DarkensEnding (sent : ℕ → ChipState → ChipState) (most u : ℕ) (last : List Cycle) (old new : BusState) : Type 0 where
+  pub reads : ℕ
+  pub few : reads ≤ most
+  pub each : (c : ℕ) → c < lanes_of old → DarkAtEnd reads u last (sent c (lane old c)) (lane new c)
+
+-- Power went in a call that writes the first codes, makes at most so many reads, and writes the last codes.
+abbrev pub DarkensCall : ℕ → (first last : List Cycle) → ℕ → BusState → BusState → Type 0
+DarkensCall u first last most old new =
+    DarkensLooking u first most old new ⊎ DarkensEnding (λ c s. after_cycles u first s) most u last old new
+
+-- ---- of a program
+
+-- Power went as the array was to be shown, or errors were to be cleared.
+abbrev pub DarkensResting : Set → ℕ → BusState → BusState → Type 0
+DarkensResting set u old new =
+    EachLane (DarkensIn u (cycles_of set ShowArray)) old new ⊎ EachLane (DarkensIn u (cycles_of set ClearErrors)) old new
+
+-- So it is after what was sent and at most so many reads, or power went in these.
+abbrev pub DarkensPolling : (sent : ℕ → ChipState → ChipState) → ℕ → Set → ℕ → BusState → BusState → Type 0
+DarkensPolling sent most set u old new =
+    DarkensAfter sent most old new
+    ⊎ (DarkensEnding sent most u (cycles_of set ShowArray) old new ⊎ DarkensEnding sent most u (cycles_of set ClearErrors) old new)

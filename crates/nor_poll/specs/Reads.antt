@@ -1,5 +1,5 @@
 -- Any number of reads of a chip, one after another.
-use Rattle.std.specs.Prelude.{◌<◌, ◌≤◌, ◌⊎◌, ℕ, zero, suc}
+use Rattle.std.specs.Prelude.{◌≡◌, ◌<◌, ◌≤◌, ◌⊎◌, ℕ, zero, suc}
 use Rattle.nor_cell.specs.Chip.{ChipState}
 use Rattle.nor_bus.specs.Bus.{BusState, lane, lanes_of}
 use Rattle.nor_bus.specs.Driven.{Went, EachLane, Darkens}
@@ -22,9 +22,25 @@ pub record DarkAfter (n : ℕ) (s t : ChipState) : Type 0 where
   pub reads : AfterReads s n mid
   pub dark : Darkens mid t
 
--- power went after some reads
-abbrev pub DarkensReading : ChipState → ChipState → Type 0
-DarkensReading s t = (n : ℕ) × DarkAfter n s t
+-- ---- after what was sent, which may go by the lane's number
+
+-- it was sent to each lane's chip
+abbrev pub EachSent : (sent : ℕ → ChipState → ChipState) → BusState → BusState → Type 0
+EachSent sent old new = (c : ℕ) → c < lanes_of old → lane new c ≡ sent c (lane old c)
+
+-- and then each was read n times
+abbrev pub EachRead : (sent : ℕ → ChipState → ChipState) → ℕ → BusState → BusState → Type 0
+EachRead sent n old new = (c : ℕ) → c < lanes_of old → AfterReads (sent c (lane old c)) n (lane new c)
+
+-- Power went in the reads after it: fewer than `most` reached the chips, and of each as many.
+pub record DarkensAfter (sent : ℕ → ChipState → ChipState) (most : ℕ) (old new : BusState) : Type 0 where
+  pub reads : ℕ
+  pub few : reads < most
+  pub each : (c : ℕ) → c < lanes_of old → DarkAfter reads (sent c (lane old c)) (lane new c)
+
+-- power went in the reads of a call that sends nothing
+abbrev pub DarkensReading : ℕ → BusState → BusState → Type 0
+DarkensReading most old new = DarkensAfter (λ c s. s) most old new
 
 -- All cycles of a call were reads that reached the chips: from `least` to `most` of them, and each lane was read as often.
 pub record ReadBy (least most : ℕ) (old new : BusState) : Type 0 where

@@ -1,16 +1,20 @@
 -- Programming a word, by the calls of either set.
-use Rattle.std.specs.Prelude.{◌≡◌, ◌<◌, ◌≤◌, ◌+◌, ◌*◌, min, ℕ, List, Bool, true, false}
+use Rattle.std.specs.Prelude.{◌≡◌, ◌<◌, ◌≤◌, ◌+◌, ◌*◌, ◌⊎◌, min, ℕ, List, Bool, true, false}
 use Rattle.nor_cell.specs.Bits.{unit_bytes, has_bit}
 use Rattle.nor_cell.specs.Chip.{ChipState, Mode, Array, Status, Rest, Program, has_blocks, block_of, is_locked, place, holds_at}
 use Rattle.nor_cell.specs.Between.{TakesCommands}
 use Rattle.nor_cell.specs.Look.{held_off}
+use Rattle.nor_cell.specs.Steps.{written}
 use Rattle.nor_cell.specs.declared.device.Set.{Set}
 use Rattle.nor_cell.specs.declared.device.Set.TheVariants.{Intel, Amd}
 use Rattle.nor_cell.specs.declared.geometry.Geometry.{Geometry}
 use Rattle.nor_word.specs.Word.{lane_of}
 use Rattle.nor_bus.specs.Bus.{BusState, lane, lanes_of, wide}
-use Rattle.nor_bus.specs.Driven.{Reaches, Went, Lost, AllLanes, Counted, EachPart}
-use Rattle.nor_poll.specs.Losing.{Tears, Loses}
+use Rattle.nor_bus.specs.Driven.{Reaches, Went, Lost, AllLanes, Counted, EachLane, EachPart, Darkens}
+use Rattle.nor_poll.specs.Codes.{after_cycles, cycles_of, DarkensIn}
+use Rattle.nor_poll.specs.Losing.{Tears, Loses, DarkensPolling}
+use Rattle.nor_poll.specs.Reads.{EachRead}
+use Rattle.nor_poll.specs.declared.codes.Command.TheVariants.{ProgramWord}
 use Rattle.nor_poll.specs.Rest.{settled, cleared_flags}
 use Rattle.nor_poll.specs.Words.{word_reads, breaks, unit_breaks, Stores, ClearsBits, HoldsBytes}
 use Rattle.nor_poll.specs.declared.lanes.LaneSet.{LaneSet}
@@ -96,6 +100,38 @@ abbrev pub word_stuck : Set → ℕ → ℕ
 word_stuck Intel limit = limit + 3
 word_stuck Amd limit = 2 * limit + 4
 
+-- how many reads the polls make at most, and how many where a lane works at each
+abbrev pub program_reads : Set → ℕ → ℕ
+program_reads Intel limit = limit
+program_reads Amd limit = 2 * limit + 1
+
+abbrev pub working_at_each : Set → ℕ → ℕ
+working_at_each Intel limit = limit
+working_at_each Amd limit = 2 * limit
+
+-- ---- which cycles had reached the chips
+
+-- lane c's chip as its part of the word was sent
+abbrev pub word_to : ℕ → List ℕ → ℕ → ChipState → ChipState
+word_to u word c s = written s u (lane_of (wide s) word c)
+
+-- the command before it
+abbrev pub word_sent : Set → ℕ → List ℕ → ℕ → ChipState → ChipState
+word_sent set u word c s = word_to u word c (after_cycles u (cycles_of set ProgramWord) s)
+
+-- power went while the command was written, or the word
+abbrev pub DarkensSending : Set → ℕ → BusState → BusState → Type 0
+DarkensSending set u old new =
+    EachLane (DarkensIn u (cycles_of set ProgramWord)) old new
+    ⊎ EachLane (λ s t. Darkens (after_cycles u (cycles_of set ProgramWord) s) t) old new
+
+-- or after that
+abbrev pub DarkensWord : Set → ℕ → List ℕ → ℕ → BusState → BusState → Type 0
+DarkensWord set u word limit old new =
+    DarkensSending set u old new ⊎ DarkensPolling (word_sent set u word) (program_reads set limit) set u old new
+
+-- ---- all lanes
+
 -- The set has the lanes that broke off, and no lane that isn't there.
 pub record AreBroken (set : Set) (width : ℕ) (g : Geometry) (u : ℕ) (word : List ℕ) (old : BusState) (broken : LaneSet) : Type 0 where
   pub told : Reaches width g u old → (c : ℕ) → c < lanes_of old
@@ -112,10 +148,12 @@ IsPrompt set width g u old new broken =
 abbrev pub WordHalts : Set → ℕ → Geometry → ℕ → List ℕ → ℕ → BusState → BusState → Halt → Type 0
 WordHalts set width g u word limit old new Off =
     Lost (word_most set limit) old new × (Reaches width g u old → EachPart word (LosesWord set u) old new)
+    × (Reaches width g u old → DarkensWord set u word limit old new)
 WordHalts set width g u word limit old new (Stuck k) =
     (k < g.lanes) × Went (word_stuck set limit) (word_stuck set limit) old new
     × (Reaches width g u old → EachPart word (TearsWord set u) old new)
     × (Reaches width g u old → IsStuckBy set u limit (lane old k))
+    × (Reaches width g u old → EachRead (word_sent set u word) (working_at_each set limit) old new)
 
 -- what is told of a lane that broke off
 abbrev pub is_broken : Seen → Bool

@@ -6,7 +6,7 @@ ghost use Rattle.nor_poll.specs.Codes.{cycle_count, cycles_of as cycles_for, Dar
 ghost use Rattle.nor_poll.specs.Losing.{BeginsNone, DarkensLooking};
 ghost use Rattle.nor_poll.specs.Told.{seen_at};
 ghost use Rattle.nor_poll.specs.UnderErase.{EachUnder, state_at};
-ghost use Rattle.nor_poll.specs.Erase.{TakesErase, TakesEraseAll, TakesLook, BeginsErase, BeginsEraseAll, ChangesWithinErase, LooksAll, next_state as state_after, erase_polling as polling_in, look_reads};
+ghost use Rattle.nor_poll.specs.Erase.{TakesErase, TakesEraseAll, TakesLook, BeginsErase, BeginsEraseAll, ChangesWithinErase, LooksAll, FewLess, next_state as state_after, erase_polling as polling_in, look_reads};
 ghost use Rattle.nor_poll.specs.declared.codes.Command.TheVariants.{EraseBlock, EraseAll, ShowStatus};
 ghost use Rattle.nor_cell.specs.declared.device.Set.TheVariants.{Amd};
 
@@ -125,7 +125,8 @@ pub fn erase_look<W: BusWord, B: Bus<W>>(
     ensures loses { OnErr result (EachUnder (TakesLook set) ChangesWithinErase W.WIDTH g at lanes
         (B.state bus.old) (B.state bus.new)) }
     ensures dark { OnErr result (Reaches W.WIDTH g at (B.state bus.old)
-        → EachLane (DarkensLooking at (cycles_for set ShowStatus)) (B.state bus.old) (B.state bus.new)) }
+        → DarkensLooking at (cycles_for set ShowStatus) (look_reads set) (B.state bus.old) (B.state bus.new)) }
+    ensures few { OnErr result (FewLess set W.WIDTH g at lanes (B.state bus.old) (B.state bus.new)) }
     ensures lost { OnErr result (Lost (cycle_count set ShowStatus + look_reads set)
         (B.state bus.old) (B.state bus.new)) }
 {

@@ -1,11 +1,11 @@
 //! Block locks, by the commands of either set.
-ghost use Rattle.std.specs.Prelude.{◌≡◌, ◌<◌, ◌+◌, ◌%◌, ◌^◌, ℕ, true, false, IsTrue, IfOk, OnOk, OnErr};
+ghost use Rattle.std.specs.Prelude.{◌≡◌, ◌<◌, ◌+◌, ◌%◌, ◌^◌, ◌++◌, ℕ, true, false, IsTrue, IfOk, OnOk, OnErr};
 ghost use Rattle.nor_cell.specs.Bits.{unit_len};
 ghost use Rattle.nor_cell.specs.Wiring.{is_wiring};
 ghost use Rattle.nor_word.specs.Word.{lane_of};
 ghost use Rattle.nor_bus.specs.Driven.{EachLane, Reaches, Asks};
-ghost use Rattle.nor_poll.specs.Codes.{cycle_count};
-ghost use Rattle.nor_poll.specs.Losing.{LosesNone};
+ghost use Rattle.nor_poll.specs.Codes.{cycle_count, cycles_of as cycles_for, DarkensIn};
+ghost use Rattle.nor_poll.specs.Losing.{LosesNone, DarkensCall};
 ghost use Rattle.nor_poll.specs.Lock.{OffersLocks, SetsLock, LosesLock, TellsLock, SomeLane, lock_command as command_for, lock_unit as unit_of, shows_locked as says_locked};
 ghost use Rattle.nor_poll.specs.declared.codes.Command.TheVariants.{LockBlock, UnlockBlock, ShowLocks, LeaveLocks};
 
@@ -36,6 +36,9 @@ fn set_lock<W: BusWord, B: Bus<W>>(
         → EachLane (SetsLock set at locked) (B.state bus.old) (B.state bus.new)) }
     ensures loses { OnErr result (Reaches W.WIDTH g at (B.state bus.old)
         → LosesLock set at locked (B.state bus.old) (B.state bus.new)) }
+    ensures dark { OnErr result (Reaches W.WIDTH g at (B.state bus.old)
+        → EachLane (DarkensIn at (cycles_for set (command_for locked) ++ cycles_for set LeaveLocks))
+        (B.state bus.old) (B.state bus.new)) }
     ensures cycles { Asks (cycle_count set (command_for locked) + cycle_count set LeaveLocks) result
         (B.state bus.old) (B.state bus.new) }
 {
@@ -55,6 +58,9 @@ pub fn lock<W: BusWord, B: Bus<W>>(set: Set, bus: &mut B, g: Geometry, at: u32) 
         → EachLane (SetsLock set at true) (B.state bus.old) (B.state bus.new)) }
     ensures loses { OnErr result (Reaches W.WIDTH g at (B.state bus.old)
         → LosesLock set at true (B.state bus.old) (B.state bus.new)) }
+    ensures dark { OnErr result (Reaches W.WIDTH g at (B.state bus.old)
+        → EachLane (DarkensIn at (cycles_for set LockBlock ++ cycles_for set LeaveLocks))
+        (B.state bus.old) (B.state bus.new)) }
     ensures cycles { Asks (cycle_count set LockBlock + cycle_count set LeaveLocks) result
         (B.state bus.old) (B.state bus.new) }
 {
@@ -67,6 +73,9 @@ pub fn unlock<W: BusWord, B: Bus<W>>(set: Set, bus: &mut B, g: Geometry, at: u32
         → EachLane (SetsLock set at false) (B.state bus.old) (B.state bus.new)) }
     ensures loses { OnErr result (Reaches W.WIDTH g at (B.state bus.old)
         → LosesLock set at false (B.state bus.old) (B.state bus.new)) }
+    ensures dark { OnErr result (Reaches W.WIDTH g at (B.state bus.old)
+        → EachLane (DarkensIn at (cycles_for set UnlockBlock ++ cycles_for set LeaveLocks))
+        (B.state bus.old) (B.state bus.new)) }
     ensures cycles { Asks (cycle_count set UnlockBlock + cycle_count set LeaveLocks) result
         (B.state bus.old) (B.state bus.new) }
 {
@@ -133,6 +142,9 @@ pub fn is_locked<W: BusWord, B: Bus<W>>(
     ensures tells { IfOk result (TellsLock set W.WIDTH g at (B.state bus.old) (B.state bus.new)) }
     ensures loses { OnErr result (Reaches W.WIDTH g at (B.state bus.old)
         → EachLane (LosesNone (OffersLocks set)) (B.state bus.old) (B.state bus.new)) }
+    ensures dark { OnErr result (Reaches W.WIDTH g at (B.state bus.old)
+        → DarkensCall at (cycles_for set ShowLocks) (cycles_for set LeaveLocks) 1
+        (B.state bus.old) (B.state bus.new)) }
     ensures cycles { Asks (cycle_count set ShowLocks + 1 + cycle_count set LeaveLocks) result
         (B.state bus.old) (B.state bus.new) }
 {

@@ -5,7 +5,7 @@ ghost use Rattle.nor_bus.specs.Driven.{Went, Lost, EachLane, Reaches, Asks};
 ghost use Rattle.nor_poll.specs.Codes.{cycle_count, cycles_of as cycles_for, DarkensIn};
 ghost use Rattle.nor_poll.specs.declared.codes.Command.TheVariants.{ClearErrors, ShowArray, Reset};
 ghost use Rattle.nor_poll.specs.Rest.{Resets, Settles, SettlesUnbroken};
-ghost use Rattle.nor_poll.specs.Losing.{LosesNone};
+ghost use Rattle.nor_poll.specs.Losing.{LosesNone, DarkensResting};
 
 use crate::{Command, LaneSet, Lanes, cycles_of, write_cycles};
 use nor_bus::{Bus, Off};
@@ -24,6 +24,8 @@ pub fn end_program<W: BusWord, B: Bus<W>>(
         → EachLane (SettlesUnbroken set broken.bits) (B.state bus.old) (B.state bus.new)) }
     ensures loses { OnErr result (Reaches W.WIDTH g at (B.state bus.old)
         → EachLane (LosesNone (AtRest set)) (B.state bus.old) (B.state bus.new)) }
+    ensures dark { OnErr result (Reaches W.WIDTH g at (B.state bus.old)
+        → DarkensResting set at (B.state bus.old) (B.state bus.new)) }
     ensures went { OnOk result (Went (cycle_count set ShowArray + min broken.bits 1) (cycle_count set ShowArray + min broken.bits 1)
         (B.state bus.old) (B.state bus.new)) }
     ensures lost { OnErr result (Lost (cycle_count set ClearErrors)

@@ -4,7 +4,7 @@ ghost use Rattle.nor_cell.specs.Wiring.{is_wiring};
 ghost use Rattle.nor_word.specs.Word.{lane_of};
 ghost use Rattle.nor_bus.specs.Bus.{units_of, lane, lanes_of, fails, IsWired};
 ghost use Rattle.nor_bus.specs.Cycles.{BusFails};
-ghost use Rattle.nor_bus.specs.Driven.{IsOwn, Went, Lost, EachLane};
+ghost use Rattle.nor_bus.specs.Driven.{IsOwn, Went, Lost};
 ghost use Rattle.nor_poll.specs.Reads.{ReadBy, DarkensReading};
 ghost use Rattle.nor_poll.specs.Told.{seen_at, TellsStatus, TellsErase};
 ghost use Rattle.nor_poll.specs.Register.{status_says, heeded};
@@ -66,7 +66,7 @@ pub fn status_poll<W: BusWord, B: Bus<W>>(bus: &mut B, g: Geometry, at: u32) -> 
     ensures went { OnOk result (Went 1 1 (B.state bus.old) (B.state bus.new)) }
     ensures read { OnOk result (ReadBy 1 1 (B.state bus.old) (B.state bus.new)) }
     ensures lost { OnErr result (Lost 1 (B.state bus.old) (B.state bus.new)) }
-    ensures dark { OnErr result (EachLane DarkensReading (B.state bus.old) (B.state bus.new)) }
+    ensures dark { OnErr result (DarkensReading 1 (B.state bus.old) (B.state bus.new)) }
     ensures fails { OnErr result (BusFails (B.state bus.old) (B.state bus.new)) }
     ensures off { IsErr result ↔ (fails (B.state bus.old) ≡ true) }
     ensures units { units_of (B.state bus.new) ≡ units_of (B.state bus.old) }
@@ -87,7 +87,7 @@ pub fn erase_poll<W: BusWord, B: Bus<W>>(bus: &mut B, g: Geometry, at: u32) -> R
         → seen_at watch.lanes c ≡ Seen.Ready) }
     ensures read { OnOk result (ReadBy 1 1 (B.state bus.old) (B.state bus.new)) }
     ensures lost { OnErr result (Lost 1 (B.state bus.old) (B.state bus.new)) }
-    ensures dark { OnErr result (EachLane DarkensReading (B.state bus.old) (B.state bus.new)) }
+    ensures dark { OnErr result (DarkensReading 1 (B.state bus.old) (B.state bus.new)) }
     ensures units { units_of (B.state bus.new) ≡ units_of (B.state bus.old) }
 {
     let word = read_word::<W, B>(bus, at)?;

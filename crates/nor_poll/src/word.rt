@@ -5,7 +5,8 @@ ghost use Rattle.nor_bus.specs.Driven.{Went, Lost, Reaches, Counted, EachPart};
 ghost use Rattle.nor_poll.specs.Codes.{cycle_count};
 ghost use Rattle.nor_poll.specs.declared.codes.Command.TheVariants.{ProgramWord};
 ghost use Rattle.nor_poll.specs.Polled.{polling_for};
-ghost use Rattle.nor_poll.specs.Word.{BeginsWord, ProgramsWord, LosesWord, AreBroken, IsPrompt, WordHalts, word_most};
+ghost use Rattle.nor_poll.specs.Reads.{EachSent};
+ghost use Rattle.nor_poll.specs.Word.{BeginsWord, ProgramsWord, LosesWord, AreBroken, IsPrompt, WordHalts, DarkensSending, word_sent, word_most};
 
 use crate::polling::set_polling;
 use crate::rest::end_program;
@@ -26,6 +27,10 @@ fn begin_word<W: BusWord, B: Bus<W>>(
         → EachPart (W.bytes new) (BeginsWord set at) (B.state bus.old) (B.state bus.new)) }
     ensures loses { OnErr result (Reaches W.WIDTH g at (B.state bus.old)
         → EachPart (W.bytes new) (LosesWord set at) (B.state bus.old) (B.state bus.new)) }
+    ensures sent { OnOk result (Reaches W.WIDTH g at (B.state bus.old)
+        → EachSent (word_sent set at (W.bytes new)) (B.state bus.old) (B.state bus.new)) }
+    ensures dark { OnErr result (Reaches W.WIDTH g at (B.state bus.old)
+        → DarkensSending set at (B.state bus.old) (B.state bus.new)) }
     ensures went { OnOk result (Went (cycle_count set ProgramWord + 1) (cycle_count set ProgramWord + 1)
         (B.state bus.old) (B.state bus.new)) }
     ensures lost { OnErr result (Lost (cycle_count set ProgramWord + 1)

@@ -1,21 +1,21 @@
 //! The commands of set 0001, Intel extended, on a bank of any wiring.
 //!
 //! The calls of both sets are one: nor_poll has them, with the set as a parameter. The sets differ there in
-//! the codes of `cycles_of`, in those that resume an erase, and in the polls. Here stand the calls of this
-//! set, under the names that a caller of one set takes.
+//! the codes of `cycles_of`, in those that resume an erase, in the polls, and in where and how the lock of a
+//! block is shown. Here stand the calls of this set, under the names that a caller of one set takes.
 #![tactic(auto)]
 
-ghost use Rattle.std.specs.Prelude.{◌≡◌, ◌≤◌, ◌+◌, true, false, IsTrue, IfOk, IfErr, OnOk, OnErr, length, map};
+ghost use Rattle.std.specs.Prelude.{◌≡◌, ◌≤◌, ◌+◌, ◌++◌, true, false, IsTrue, IfOk, IfErr, OnOk, OnErr, length, map};
 ghost use Rattle.nor_cell.specs.Between.{AtRest};
 ghost use Rattle.nor_cell.specs.Wiring.{is_wiring};
 ghost use Rattle.nor_cell.specs.declared.device.Set.TheVariants.{Intel};
 ghost use Rattle.nor_bus.specs.Driven.{Lost, EachLane, Reaches, Counted, Asks, EachPart, Darkens};
 ghost use Rattle.nor_poll.specs.Buffer.{EachLoad, ReachesAll, ProgramsLoad, AreLoadsBroken, IsLoadPrompt, LoadHalts, load_most};
 ghost use Rattle.nor_poll.specs.Codes.{cycle_count, cycles_of, DarkensIn};
-ghost use Rattle.nor_poll.specs.Erase.{TakesErase, TakesLook, BeginsErase, ChangesWithinErase, LooksAll, look_reads};
+ghost use Rattle.nor_poll.specs.Erase.{TakesErase, TakesLook, BeginsErase, ChangesWithinErase, LooksAll, FewLess, look_reads};
 ghost use Rattle.nor_poll.specs.Lock.{OffersLocks, SetsLock, LosesLock, TellsLock};
 ghost use Rattle.nor_poll.specs.Rest.{Settles};
-ghost use Rattle.nor_poll.specs.Losing.{LosesNone, BeginsNone, DarkensLooking};
+ghost use Rattle.nor_poll.specs.Losing.{LosesNone, BeginsNone, DarkensLooking, DarkensCall};
 ghost use Rattle.nor_poll.specs.Resume.{TakesResume, ResumesAll};
 ghost use Rattle.nor_poll.specs.Suspend.{SuspendsAll, SuspendHalts};
 ghost use Rattle.nor_poll.specs.UnderErase.{EachUnder};
@@ -113,7 +113,8 @@ pub fn erase_look<W: BusWord, B: Bus<W>>(
     ensures loses { OnErr result (EachUnder (TakesLook Intel) ChangesWithinErase W.WIDTH g at lanes
         (B.state bus.old) (B.state bus.new)) }
     ensures dark { OnErr result (Reaches W.WIDTH g at (B.state bus.old)
-        → EachLane (DarkensLooking at (cycles_of Intel ShowStatus)) (B.state bus.old) (B.state bus.new)) }
+        → DarkensLooking at (cycles_of Intel ShowStatus) (look_reads Intel) (B.state bus.old) (B.state bus.new)) }
+    ensures few { OnErr result (FewLess Intel W.WIDTH g at lanes (B.state bus.old) (B.state bus.new)) }
     ensures lost { OnErr result (Lost (cycle_count Intel ShowStatus + look_reads Intel)
         (B.state bus.old) (B.state bus.new)) }
 {
@@ -160,6 +161,9 @@ pub fn lock<W: BusWord, B: Bus<W>>(bus: &mut B, g: Geometry, at: u32) -> Result<
         → EachLane (SetsLock Intel at true) (B.state bus.old) (B.state bus.new)) }
     ensures loses { OnErr result (Reaches W.WIDTH g at (B.state bus.old)
         → LosesLock Intel at true (B.state bus.old) (B.state bus.new)) }
+    ensures dark { OnErr result (Reaches W.WIDTH g at (B.state bus.old)
+        → EachLane (DarkensIn at (cycles_of Intel LockBlock ++ cycles_of Intel LeaveLocks))
+        (B.state bus.old) (B.state bus.new)) }
     ensures cycles { Asks (cycle_count Intel LockBlock + cycle_count Intel LeaveLocks) result
         (B.state bus.old) (B.state bus.new) }
 {
@@ -172,6 +176,9 @@ pub fn unlock<W: BusWord, B: Bus<W>>(bus: &mut B, g: Geometry, at: u32) -> Resul
         → EachLane (SetsLock Intel at false) (B.state bus.old) (B.state bus.new)) }
     ensures loses { OnErr result (Reaches W.WIDTH g at (B.state bus.old)
         → LosesLock Intel at false (B.state bus.old) (B.state bus.new)) }
+    ensures dark { OnErr result (Reaches W.WIDTH g at (B.state bus.old)
+        → EachLane (DarkensIn at (cycles_of Intel UnlockBlock ++ cycles_of Intel LeaveLocks))
+        (B.state bus.old) (B.state bus.new)) }
     ensures cycles { Asks (cycle_count Intel UnlockBlock + cycle_count Intel LeaveLocks) result
         (B.state bus.old) (B.state bus.new) }
 {
@@ -184,6 +191,9 @@ pub fn is_locked<W: BusWord, B: Bus<W>>(bus: &mut B, g: Geometry, at: u32) -> Re
     ensures tells { IfOk result (TellsLock Intel W.WIDTH g at (B.state bus.old) (B.state bus.new)) }
     ensures loses { OnErr result (Reaches W.WIDTH g at (B.state bus.old)
         → EachLane (LosesNone (OffersLocks Intel)) (B.state bus.old) (B.state bus.new)) }
+    ensures dark { OnErr result (Reaches W.WIDTH g at (B.state bus.old)
+        → DarkensCall at (cycles_of Intel ShowLocks) (cycles_of Intel LeaveLocks) 1
+        (B.state bus.old) (B.state bus.new)) }
     ensures cycles { Asks (cycle_count Intel ShowLocks + 1 + cycle_count Intel LeaveLocks) result
         (B.state bus.old) (B.state bus.new) }
 {

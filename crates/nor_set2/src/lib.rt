@@ -1,21 +1,21 @@
 //! The commands of set 0002, AMD standard, on a bank of any wiring.
 //!
 //! The calls of both sets are one: nor_poll has them, with the set as a parameter. The sets differ there in
-//! the codes of `cycles_of`, in those that resume an erase, and in the polls. Here stand the calls of this
-//! set, under the names that a caller of one set takes.
+//! the codes of `cycles_of`, in those that resume an erase, in the polls, and in where and how the lock of a
+//! block is shown. Here stand the calls of this set, under the names that a caller of one set takes.
 #![tactic(auto)]
 
-ghost use Rattle.std.specs.Prelude.{◌≡◌, ◌≤◌, ◌+◌, true, false, IsTrue, IfOk, IfErr, OnOk, OnErr, length, map};
+ghost use Rattle.std.specs.Prelude.{◌≡◌, ◌≤◌, ◌+◌, ◌++◌, true, false, IsTrue, IfOk, IfErr, OnOk, OnErr, length, map};
 ghost use Rattle.nor_cell.specs.Between.{AtRest};
 ghost use Rattle.nor_cell.specs.Wiring.{is_wiring};
 ghost use Rattle.nor_cell.specs.declared.device.Set.TheVariants.{Amd};
 ghost use Rattle.nor_bus.specs.Driven.{Lost, EachLane, Reaches, Counted, Asks, EachPart, Darkens};
 ghost use Rattle.nor_poll.specs.Buffer.{EachLoad, ReachesAll, ProgramsLoad, AreLoadsBroken, IsLoadPrompt, LoadHalts, load_most};
 ghost use Rattle.nor_poll.specs.Codes.{cycle_count, cycles_of, DarkensIn};
-ghost use Rattle.nor_poll.specs.Erase.{TakesErase, TakesEraseAll, TakesLook, BeginsErase, BeginsEraseAll, ChangesWithinErase, LooksAll, look_reads};
+ghost use Rattle.nor_poll.specs.Erase.{TakesErase, TakesEraseAll, TakesLook, BeginsErase, BeginsEraseAll, ChangesWithinErase, LooksAll, FewLess, look_reads};
 ghost use Rattle.nor_poll.specs.Lock.{OffersLocks, SetsLock, LosesLock, TellsLock};
 ghost use Rattle.nor_poll.specs.Rest.{Settles};
-ghost use Rattle.nor_poll.specs.Losing.{LosesNone, BeginsNone, DarkensLooking};
+ghost use Rattle.nor_poll.specs.Losing.{LosesNone, BeginsNone, DarkensLooking, DarkensCall};
 ghost use Rattle.nor_poll.specs.Resume.{TakesResume, ResumesAll};
 ghost use Rattle.nor_poll.specs.Suspend.{SuspendsAll, SuspendHalts};
 ghost use Rattle.nor_poll.specs.UnderErase.{EachUnder};
@@ -126,7 +126,8 @@ pub fn erase_look<W: BusWord, B: Bus<W>>(
     ensures loses { OnErr result (EachUnder (TakesLook Amd) ChangesWithinErase W.WIDTH g at lanes
         (B.state bus.old) (B.state bus.new)) }
     ensures dark { OnErr result (Reaches W.WIDTH g at (B.state bus.old)
-        → EachLane (DarkensLooking at (cycles_of Amd ShowStatus)) (B.state bus.old) (B.state bus.new)) }
+        → DarkensLooking at (cycles_of Amd ShowStatus) (look_reads Amd) (B.state bus.old) (B.state bus.new)) }
+    ensures few { OnErr result (FewLess Amd W.WIDTH g at lanes (B.state bus.old) (B.state bus.new)) }
     ensures lost { OnErr result (Lost (cycle_count Amd ShowStatus + look_reads Amd)
         (B.state bus.old) (B.state bus.new)) }
 {
@@ -173,6 +174,9 @@ pub fn lock<W: BusWord, B: Bus<W>>(bus: &mut B, g: Geometry, at: u32) -> Result<
         → EachLane (SetsLock Amd at true) (B.state bus.old) (B.state bus.new)) }
     ensures loses { OnErr result (Reaches W.WIDTH g at (B.state bus.old)
         → LosesLock Amd at true (B.state bus.old) (B.state bus.new)) }
+    ensures dark { OnErr result (Reaches W.WIDTH g at (B.state bus.old)
+        → EachLane (DarkensIn at (cycles_of Amd LockBlock ++ cycles_of Amd LeaveLocks))
+        (B.state bus.old) (B.state bus.new)) }
     ensures cycles { Asks (cycle_count Amd LockBlock + cycle_count Amd LeaveLocks) result
         (B.state bus.old) (B.state bus.new) }
 {
@@ -185,6 +189,9 @@ pub fn unlock<W: BusWord, B: Bus<W>>(bus: &mut B, g: Geometry, at: u32) -> Resul
         → EachLane (SetsLock Amd at false) (B.state bus.old) (B.state bus.new)) }
     ensures loses { OnErr result (Reaches W.WIDTH g at (B.state bus.old)
         → LosesLock Amd at false (B.state bus.old) (B.state bus.new)) }
+    ensures dark { OnErr result (Reaches W.WIDTH g at (B.state bus.old)
+        → EachLane (DarkensIn at (cycles_of Amd UnlockBlock ++ cycles_of Amd LeaveLocks))
+        (B.state bus.old) (B.state bus.new)) }
     ensures cycles { Asks (cycle_count Amd UnlockBlock + cycle_count Amd LeaveLocks) result
         (B.state bus.old) (B.state bus.new) }
 {
@@ -197,6 +204,9 @@ pub fn is_locked<W: BusWord, B: Bus<W>>(bus: &mut B, g: Geometry, at: u32) -> Re
     ensures tells { IfOk result (TellsLock Amd W.WIDTH g at (B.state bus.old) (B.state bus.new)) }
     ensures loses { OnErr result (Reaches W.WIDTH g at (B.state bus.old)
         → EachLane (LosesNone (OffersLocks Amd)) (B.state bus.old) (B.state bus.new)) }
+    ensures dark { OnErr result (Reaches W.WIDTH g at (B.state bus.old)
+        → DarkensCall at (cycles_of Amd ShowLocks) (cycles_of Amd LeaveLocks) 1
+        (B.state bus.old) (B.state bus.new)) }
     ensures cycles { Asks (cycle_count Amd ShowLocks + 1 + cycle_count Amd LeaveLocks) result
         (B.state bus.old) (B.state bus.new) }
 {

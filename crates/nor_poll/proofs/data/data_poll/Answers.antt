@@ -2,7 +2,7 @@ use Rattle.std.proofs.Common.{arith, ◌<◌, ℕ, subst, sym, refl}
 use Rattle.nor_cell.specs.Bits.{unit_len}
 use Rattle.nor_word.specs.Word.{lane_of}
 use Rattle.nor_bus.specs.Bus.{lane, wide}
-use Rattle.nor_bus.specs.Driven.{Lost, EachLane}
+use Rattle.nor_bus.specs.Driven.{Lost}
 use Rattle.nor_bus.proofs.Driving.{own_kept, device_of, lane_kept}
 use Rattle.nor_poll.specs.Reads.{DarkensReading}
 use Rattle.nor_poll.proofs.Showing.{told_first, told_data, told_wide}
@@ -34,7 +34,7 @@ returns-in_err-second-clause-dark g c =
     let old = g.B.Bus.state c.args.bus.now in
     let mid = g.B.Bus.state c.look.new.bus in
     let new = g.B.Bus.state c.look-2.new.bus in
-    on_err c.from_residual-in_err-second.result (EachLane DarkensReading old new) (dark_then 1 1 old mid new c.in_ok-first.ensures.went c.in_err-second.ensures.dark)
+    on_err c.from_residual-in_err-second.result (DarkensReading 2 old new) (dark_then 1 1 1 2 old mid new (omega arith) c.in_ok-first.ensures.went c.in_err-second.ensures.dark)
 
 pub returns-clause-told : goal.returns-clause-told
 returns-clause-told g c = λ own within k below.

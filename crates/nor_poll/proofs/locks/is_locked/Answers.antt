@@ -1,13 +1,14 @@
-use Rattle.std.proofs.Common.{List, subst, arith, length, ◌+◌, ap, ◌∙◌}
+use Rattle.std.proofs.Common.{List, subst, arith, length, ◌+◌, ap, ◌∙◌, inl, inr}
 use Rattle.nor_bus.specs.Bus.{lane}
 use Rattle.nor_bus.specs.Driven.{Reaches, EachLane}
 use Rattle.nor_bus.proofs.Driving.{went_then, lost_then, reaches_kept, lane_kept, keeps_then}
 use Rattle.nor_poll.specs.Codes.{after_cycles, DarkensIn, cycles_of}
-use Rattle.nor_poll.specs.Losing.{LosesNone}
+use Rattle.nor_poll.specs.Losing.{LosesNone, DarkensCall}
 use Rattle.nor_poll.specs.Lock.{OffersLocks}
 use Rattle.nor_poll.specs.declared.codes.Command.TheVariants.{ShowLocks, LeaveLocks}
 use Rattle.nor_poll.specs.declared.codes.Cycle.{Cycle}
-use Rattle.nor_poll.proofs.Reading.{on_err, asks_lost, darkens}
+use Rattle.nor_poll.proofs.Reading.{on_err, asks_lost, darkens, dark_sent, dark_now, dark_at_end, read_one}
+use Rattle.nor_poll.proofs.Looking.{looked_by}
 use Rattle.nor_poll.proofs.Locking.{loses_showing, loses_shown, loses_leaving}
 use Rattle.nor_poll.proofs.LockReads.{IsRead, mid_shows, last_shows, tells}
 use Rattle.nor_poll.proofs.locks.is_locked.Goals as goal
@@ -30,6 +31,40 @@ returns-in_err-word-clause-loses g c =
     (mid_shows c.args.set c.args.at (lane old k) (lane mid k)
     (c.in_ok-write_cycles.ensures.lanes reaches k below ∙ ap (λ (l : List Cycle). after_cycles c.args.at l (lane old k)) c.cycles_of.ensures))
     (darkens mid new c.in_err-word.ensures.fails k (lane_kept old mid k c.in_ok-write_cycles.ensures.went.kept below)))
+
+pub returns-in_err-write_cycles-clause-dark : goal.returns-in_err-write_cycles-clause-dark
+returns-in_err-write_cycles-clause-dark g c =
+    let set = c.args.set in
+    let old = g.B.Bus.state c.args.bus.now in
+    let new = g.B.Bus.state c.write_cycles.new.bus in
+    on_err c.from_residual.result (Reaches g.W.BusWord.WIDTH c.args.g c.args.at old → DarkensCall c.args.at (cycles_of set ShowLocks) (cycles_of set LeaveLocks) 1 old new) (λ reaches. inl (inl (λ k below.
+    subst (λ (l : List Cycle). DarkensIn c.args.at l (lane old k) (lane new k)) c.cycles_of.ensures (c.in_err-write_cycles.ensures.dark reaches k below))))
+
+pub returns-in_err-word-clause-dark : goal.returns-in_err-word-clause-dark
+returns-in_err-word-clause-dark g c =
+    let set = c.args.set in
+    let old = g.B.Bus.state c.args.bus.now in
+    let mid = g.B.Bus.state c.write_cycles.new.bus in
+    let new = g.B.Bus.state c.read_word.new.bus in
+    on_err c.from_residual-in_err-word.result (Reaches g.W.BusWord.WIDTH c.args.g c.args.at old → DarkensCall c.args.at (cycles_of set ShowLocks) (cycles_of set LeaveLocks) 1 old new) (λ reaches. inl (inr (
+    dark_sent (λ k. after_cycles c.args.at (cycles_of set ShowLocks)) 1 1 old mid new (omega arith) c.in_ok-write_cycles.ensures.went.kept
+    (λ k below. c.in_ok-write_cycles.ensures.lanes reaches k below ∙ ap (λ (l : List Cycle). after_cycles c.args.at l (lane old k)) c.cycles_of.ensures)
+    (dark_now mid new (darkens mid new c.in_err-word.ensures.fails)))))
+
+pub returns-in_err-write_cycles-2-clause-dark : goal.returns-in_err-write_cycles-2-clause-dark
+returns-in_err-write_cycles-2-clause-dark g c =
+    let set = c.args.set in
+    let old = g.B.Bus.state c.args.bus.now in
+    let mid = g.B.Bus.state c.write_cycles.new.bus in
+    let last = g.B.Bus.state c.read_word.new.bus in
+    let new = g.B.Bus.state c.write_cycles-2.new.bus in
+    let kept = keeps_then old mid last c.in_ok-write_cycles.ensures.went.kept c.in_ok-word.ensures.went.kept in
+    on_err c.from_residual-in_err-write_cycles-2.result (Reaches g.W.BusWord.WIDTH c.args.g c.args.at old → DarkensCall c.args.at (cycles_of set ShowLocks) (cycles_of set LeaveLocks) 1 old new) (λ reaches. inr (
+    dark_at_end (λ k. after_cycles c.args.at (cycles_of set ShowLocks)) 1 1 c.args.at (cycles_of set LeaveLocks) old mid last new (omega arith) c.in_ok-write_cycles.ensures.went.kept
+    (λ k below. c.in_ok-write_cycles.ensures.lanes reaches k below ∙ ap (λ (l : List Cycle). after_cycles c.args.at l (lane old k)) c.cycles_of.ensures)
+    (read_one mid last c.in_ok-word.ensures.went (λ k below. looked_by (lane mid k) _ _ (lane last k) (c.in_ok-word.ensures.lanes k below)))
+    (λ k below. subst (λ (l : List Cycle). DarkensIn c.args.at l (lane last k) (lane new k)) c.cycles_of-2.ensures
+    (c.in_err-write_cycles-2.ensures.dark (reaches_kept g.W.BusWord.WIDTH c.args.g c.args.at old last kept reaches) k below))))
 
 pub returns-in_err-word-clause-cycles : goal.returns-in_err-word-clause-cycles
 returns-in_err-word-clause-cycles g c =

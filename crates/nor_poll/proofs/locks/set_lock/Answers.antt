@@ -1,6 +1,8 @@
-use Rattle.std.proofs.Common.{List, subst, arith, length, ◌+◌, ap, ◌∙◌, inl, inr}
+use Rattle.std.proofs.Common.{List, subst, arith, length, ◌+◌, ◌++◌, ap, ◌∙◌, inl, inr}
 use Rattle.nor_bus.specs.Bus.{lane}
-use Rattle.nor_bus.specs.Driven.{Reaches}
+use Rattle.nor_bus.specs.Driven.{Reaches, EachLane}
+use Rattle.nor_cell.specs.Chip.{ChipState}
+use Rattle.nor_poll.proofs.Leading.{dark_first, dark_behind}
 use Rattle.nor_bus.proofs.Driving.{went_then, lost_then, reaches_kept, lane_kept}
 use Rattle.nor_poll.specs.Codes.{after_cycles, DarkensIn, cycles_of}
 use Rattle.nor_poll.specs.Lock.{LosesLock, lock_command}
@@ -28,6 +30,33 @@ returns-in_err-write_cycles-2-clause-loses g c =
     let first = c.cycles_of.ensures ∙ ap (cycles_of c.args.set) c.lock_command.ensures in
     on_err c.from_residual-in_err-write_cycles-2.result (Reaches g.W.BusWord.WIDTH c.args.g c.args.at old → LosesLock c.args.set c.args.at c.args.locked old new) (λ reaches. inr (λ k below.
     loses_new c.args.set c.args.locked c.args.at (lane old k) (lane mid k) (lane new k)
+    (c.in_ok-write_cycles.ensures.lanes reaches k below ∙ ap (λ (l : List Cycle). after_cycles c.args.at l (lane old k)) first)
+    (subst (λ (l : List Cycle). DarkensIn c.args.at l (lane mid k) (lane new k)) c.cycles_of-2.ensures
+    (c.in_err-write_cycles-2.ensures.dark (reaches_kept g.W.BusWord.WIDTH c.args.g c.args.at old mid kept reaches) k (lane_kept old mid k kept below)))))
+
+pub returns-in_err-write_cycles-clause-dark : goal.returns-in_err-write_cycles-clause-dark
+returns-in_err-write_cycles-clause-dark g c =
+    let old = g.B.Bus.state c.args.bus.now in
+    let new = g.B.Bus.state c.write_cycles.new.bus in
+    let codes = cycles_of c.args.set (lock_command c.args.locked) in
+    let last = cycles_of c.args.set LeaveLocks in
+    let first = c.cycles_of.ensures ∙ ap (cycles_of c.args.set) c.lock_command.ensures in
+    on_err c.from_residual.result (Reaches g.W.BusWord.WIDTH c.args.g c.args.at old → EachLane (DarkensIn c.args.at (codes ++ last)) old new) (λ reaches k below.
+    dark_first c.args.at codes last (lane old k) (lane new k)
+    (subst (λ (l : List Cycle). DarkensIn c.args.at l (lane old k) (lane new k)) first (c.in_err-write_cycles.ensures.dark reaches k below)))
+
+pub returns-in_err-write_cycles-2-clause-dark : goal.returns-in_err-write_cycles-2-clause-dark
+returns-in_err-write_cycles-2-clause-dark g c =
+    let old = g.B.Bus.state c.args.bus.now in
+    let mid = g.B.Bus.state c.write_cycles.new.bus in
+    let new = g.B.Bus.state c.write_cycles-2.new.bus in
+    let kept = c.in_ok-write_cycles.ensures.went.kept in
+    let codes = cycles_of c.args.set (lock_command c.args.locked) in
+    let last = cycles_of c.args.set LeaveLocks in
+    let first = c.cycles_of.ensures ∙ ap (cycles_of c.args.set) c.lock_command.ensures in
+    on_err c.from_residual-in_err-write_cycles-2.result (Reaches g.W.BusWord.WIDTH c.args.g c.args.at old → EachLane (DarkensIn c.args.at (codes ++ last)) old new) (λ reaches k below.
+    dark_behind c.args.at codes last (lane old k) (lane new k)
+    (subst (λ (x : ChipState). DarkensIn c.args.at last x (lane new k))
     (c.in_ok-write_cycles.ensures.lanes reaches k below ∙ ap (λ (l : List Cycle). after_cycles c.args.at l (lane old k)) first)
     (subst (λ (l : List Cycle). DarkensIn c.args.at l (lane mid k) (lane new k)) c.cycles_of-2.ensures
     (c.in_err-write_cycles-2.ensures.dark (reaches_kept g.W.BusWord.WIDTH c.args.g c.args.at old mid kept reaches) k (lane_kept old mid k kept below)))))

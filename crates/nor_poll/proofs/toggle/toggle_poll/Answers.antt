@@ -2,7 +2,7 @@ use Rattle.std.proofs.Common.{arith, inl, inr, ◌<◌, ℕ, subst, sym, refl, �
 use Rattle.nor_cell.specs.Bits.{unit_len}
 use Rattle.nor_word.specs.Word.{lane_of}
 use Rattle.nor_bus.specs.Bus.{lane}
-use Rattle.nor_bus.specs.Driven.{Lost, EachLane}
+use Rattle.nor_bus.specs.Driven.{Lost}
 use Rattle.nor_bus.proofs.Driving.{own_kept, lane_kept}
 use Rattle.nor_poll.specs.Reads.{DarkensReading}
 use Rattle.nor_poll.specs.Told.{seen_at}
@@ -24,7 +24,7 @@ returns-in_err-second-clause-dark g c =
     let old = g.B.Bus.state c.args.bus.now in
     let mid = g.B.Bus.state c.look.new.bus in
     let new = g.B.Bus.state c.look-2.new.bus in
-    on_err c.from_residual-in_err-second.result (EachLane DarkensReading old new) (dark_then 1 1 old mid new c.in_ok-first.ensures.went c.in_err-second.ensures.dark)
+    on_err c.from_residual-in_err-second.result (DarkensReading 3 old new) (dark_then 1 1 1 3 old mid new (omega arith) c.in_ok-first.ensures.went c.in_err-second.ensures.dark)
 
 pub returns-then-not-just_ended-clause-told : goal.returns-then-not-just_ended-clause-told
 returns-then-not-just_ended-clause-told g c = λ own within k below.
@@ -69,7 +69,7 @@ returns-in_err-third-clause-dark g c =
     let last = g.B.Bus.state c.look-2.new.bus in
     let new = g.B.Bus.state c.look-3.new.bus in
     let two = read_then 1 1 1 1 2 2 old mid last (omega arith) (omega arith) c.in_ok-first.ensures.went c.in_ok-second.ensures.went in
-    on_err c.from_residual-in_err-third.result (EachLane DarkensReading old new) (dark_then 2 2 old last new two c.in_err-third.ensures.dark)
+    on_err c.from_residual-in_err-third.result (DarkensReading 3 old new) (dark_then 2 2 1 3 old last new (omega arith) two c.in_err-third.ensures.dark)
 
 pub returns-clause-told : goal.returns-clause-told
 returns-clause-told g c = λ own within k below.
