@@ -78,6 +78,10 @@ range bytes at len = slice_range bytes at (at + len)
 abbrev pub put : List ℕ → ℕ → List ℕ → List ℕ
 put bytes at new = take at bytes ++ new ++ drop (at + length new) bytes
 
+-- so it is of any array that has these blocks
+abbrev pub OfBlocks : List Span → (ArrayState → Type 0) → Type 0
+OfBlocks blocks P = (a : ArrayState) → a.consts.blocks ≡ blocks → P a
+
 -- the bytes of a block; a block that isn't there has none
 abbrev pub span_of : ArrayState → ℕ → Span
 span_of a b = block a.consts.blocks b

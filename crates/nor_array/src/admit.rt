@@ -54,7 +54,7 @@ fn is_locked(array: &PlainArray, block: u32) -> bool
 fn touches_locked(array: &PlainArray, reach: Reach, block: u32) -> bool
     ensures { result ≡ (touches array.now reach block && is_locked array.now block) }
 {
-    touches(array, reach, block) && is_locked(array, block)
+    touches(&array.consts.map, reach, block) && is_locked(array, block)
 }
 
 // The lowest locked block that is touched.
@@ -86,7 +86,7 @@ fn target_span(array: &PlainArray, target: Target) -> Span
     ensures { result ≡ covered (chip_target target) (array.now).consts.blocks }
 {
     match target {
-        Target::OneBlock { block } => span_of(array, block),
+        Target::OneBlock { block } => span_of(&array.consts.map, block),
         Target::AllBlocks => all_blocks(array),
     }
 }

@@ -43,5 +43,8 @@ pub use laws::{
     calls_are_answered, entries_change_what_they_name, halts_have_a_cause,
     histories_grow_at_the_end,
 };
-pub use refuse::MAX_LEN;
+pub use needs::{
+    CallNeeds, Chance, Reach, erase_all_call, erase_call, lock_call, program_call, read_call,
+};
+pub use refuse::{MAX_LEN, while_open};
 pub use state::{ArmedCut, OpenErase, Power, Target};

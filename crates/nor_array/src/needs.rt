@@ -1,5 +1,5 @@
 //! What each call needs, as one table.
-ghost use Rattle.std.specs.Prelude.{◌≡◌};
+ghost use Rattle.std.specs.Prelude.{◌≡◌, ℕ, List, length};
 ghost use Rattle.nor_array.specs.Needs.{bare_call, lock_call, needs_of};
 
 use crate::Op;
@@ -54,7 +54,8 @@ const BARE_CALL: CallNeeds = CallNeeds {
     chip_erase: false,
 };
 
-fn lock_call(block: u32) -> CallNeeds
+/// The needs of a call about the lock of a block.
+pub fn lock_call(block: u32) -> CallNeeds
     ensures { result ≡ lock_call block }
 {
     CallNeeds {
@@ -66,17 +67,54 @@ fn lock_call(block: u32) -> CallNeeds
     }
 }
 
-fn read_call(at: u32, len: u32) -> CallNeeds
+/// Those of a read of so many bytes.
+pub fn read_call(at: u32, len: usize) -> CallNeeds
     ensures { result ≡ needs_of (Op.Read at len) }
 {
     CallNeeds {
-        reach: Reach::Range {
-            at,
-            len: len as usize,
-        },
+        reach: Reach::Range { at, len },
         idle: len == 0,
         waits: Chance::BesideErase,
         sticks: Chance::BesideErase,
+        ..BARE_CALL
+    }
+}
+
+/// Those of a program of so many bytes.
+pub fn program_call(at: u32, len: usize) -> CallNeeds
+    ensures { (new : List ℕ) → length new ≡ len → result ≡ needs_of (Op.Program at new) }
+{
+    CallNeeds {
+        reach: Reach::Range { at, len },
+        idle: len == 0,
+        waits: Chance::BesideErase,
+        sticks: Chance::Always,
+        unlocked: true,
+        ..BARE_CALL
+    }
+}
+
+/// Those of the erase of a block.
+pub fn erase_call(block: u32) -> CallNeeds
+    ensures { result ≡ needs_of (Op.EraseOpen block) }
+{
+    CallNeeds {
+        reach: Reach::Block { block },
+        opens: true,
+        unlocked: true,
+        ..BARE_CALL
+    }
+}
+
+/// Those of the erase of all blocks at once.
+pub fn erase_all_call() -> CallNeeds
+    ensures { result ≡ needs_of Op.EraseAll }
+{
+    CallNeeds {
+        reach: Reach::Everywhere,
+        opens: true,
+        unlocked: true,
+        chip_erase: true,
         ..BARE_CALL
     }
 }
@@ -86,31 +124,10 @@ pub(crate) fn needs_of(op: &Op) -> CallNeeds
     ensures { result ≡ needs_of op.now }
 {
     match op {
-        Op::Read { at, len } => read_call(*at, *len),
-        Op::Program { at, new } => CallNeeds {
-            reach: Reach::Range {
-                at: *at,
-                len: new.as_slice().len(),
-            },
-            idle: new.as_slice().is_empty(),
-            waits: Chance::BesideErase,
-            sticks: Chance::Always,
-            unlocked: true,
-            ..BARE_CALL
-        },
-        Op::EraseOpen { block } => CallNeeds {
-            reach: Reach::Block { block: *block },
-            opens: true,
-            unlocked: true,
-            ..BARE_CALL
-        },
-        Op::EraseAll => CallNeeds {
-            reach: Reach::Everywhere,
-            opens: true,
-            unlocked: true,
-            chip_erase: true,
-            ..BARE_CALL
-        },
+        Op::Read { at, len } => read_call(*at, *len as usize),
+        Op::Program { at, new } => program_call(*at, new.as_slice().len()),
+        Op::EraseOpen { block } => erase_call(*block),
+        Op::EraseAll => erase_all_call(),
         Op::Poll => CallNeeds {
             waits: Chance::Always,
             sticks: Chance::Always,

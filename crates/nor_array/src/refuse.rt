@@ -1,7 +1,8 @@
 //! The refusals that the array and the call alone decide.
 ghost use Rattle.std.specs.Prelude.{◌≡◌, [], ◌∷◌, ◌&&◌, length, not, None};
-ghost use Rattle.nor_cell.specs.Chip.{covered, AllBlocks};
-ghost use Rattle.nor_array.specs.Array.{span_of, is_on, lowest, meets};
+ghost use Rattle.nor_cell.specs.Chip.{block as nth, covered, AllBlocks};
+ghost use Rattle.nor_region.specs.Map.{spans_of};
+ghost use Rattle.nor_array.specs.Array.{OfBlocks, is_on, lowest, meets};
 ghost use Rattle.nor_array.specs.Refusals.{is_outside, is_too_long, is_power_on, kept_halt, owns, has_nothing};
 ghost use Rattle.nor_array.specs.Refusals.{touches, touched_open, first_busy, first_open, while_open};
 ghost use Rattle.nor_array.specs.Refusals.{when, first_some, refusal};
@@ -10,6 +11,7 @@ ghost use Rattle.nor_array.specs.declared.entry.Reply.TheVariants.{NoLocks, NoCh
 use crate::needs::{CallNeeds, Reach, needs_of};
 use crate::{Halted, Op, OpenErase, PlainArray, Power, Reply, Target};
 use nor_cell::Span;
+use nor_region::BlockMap;
 
 /// The most bytes of a read or a program.
 pub const MAX_LEN: usize = 4096;
@@ -24,11 +26,11 @@ pub(crate) fn meets(at: u32, len: usize, span: Span) -> bool
 }
 
 // The bytes of a block, and none of one that isn't there.
-pub(crate) fn span_of(array: &PlainArray, block: u32) -> Span
-    ensures { result ≡ span_of array.now block }
+pub(crate) fn span_of(map: &BlockMap, block: u32) -> Span
+    ensures { result ≡ nth (spans_of map.now) block }
 {
-    if block < array.consts.map.blocks() {
-        array.consts.map.span(block)
+    if block < map.blocks() {
+        map.span(block)
     } else {
         Span { from: 0, len: 0 }
     }
@@ -123,23 +125,24 @@ fn has_nothing(array: &PlainArray, caller: u8, op: &Op) -> bool
 }
 
 // Whether the block is touched.
-pub(crate) fn touches(array: &PlainArray, reach: Reach, block: u32) -> bool
-    ensures { result ≡ touches array.now reach block }
+pub(crate) fn touches(map: &BlockMap, reach: Reach, block: u32) -> bool
+    ensures { OfBlocks (spans_of map.now) (λ a. result ≡ touches a reach block) }
 {
     match reach {
         Reach::Nowhere => false,
-        Reach::Range { at, len } => meets(at, len, span_of(array, block)),
+        Reach::Range { at, len } => meets(at, len, span_of(map, block)),
         Reach::Block { block: other } => other == block,
         Reach::Everywhere => true,
     }
 }
 
 // The lowest block that is touched.
-fn lowest_touched(array: &PlainArray, reach: Reach) -> Option<u32>
-    ensures { result ≡ lowest (touches array.now reach) 0 (length (array.now).consts.blocks) }
+fn lowest_touched(map: &BlockMap, reach: Reach) -> Option<u32>
+    ensures { OfBlocks (spans_of map.now)
+        (λ a. result ≡ lowest (touches a reach) 0 (length a.consts.blocks)) }
 {
-    for block in 0..blocks(array) {
-        if touches(array, reach, block) {
+    for block in 0..map.blocks() {
+        if touches(map, reach, block) {
             return Some(block);
         }
     }
@@ -147,24 +150,24 @@ fn lowest_touched(array: &PlainArray, reach: Reach) -> Option<u32>
 }
 
 // The lowest block under erase that is touched.
-fn touched_open(array: &PlainArray, target: Target, reach: Reach) -> Option<u32>
-    ensures { result ≡ touched_open target array.now reach }
+fn touched_open(map: &BlockMap, target: Target, reach: Reach) -> Option<u32>
+    ensures { OfBlocks (spans_of map.now) (λ a. result ≡ touched_open target a reach) }
 {
     match target {
-        Target::OneBlock { block } if touches(array, reach, block) => Some(block),
+        Target::OneBlock { block } if touches(map, reach, block) => Some(block),
         Target::OneBlock { .. } => None,
-        Target::AllBlocks => lowest_touched(array, reach),
+        Target::AllBlocks => lowest_touched(map, reach),
     }
 }
 
 // The same, but for a call that would erase all blocks.
-fn first_busy(array: &PlainArray, erase: OpenErase, needs: CallNeeds) -> Option<u32>
-    ensures { result ≡ first_busy erase array.now needs }
+fn first_busy(map: &BlockMap, erase: OpenErase, needs: CallNeeds) -> Option<u32>
+    ensures { OfBlocks (spans_of map.now) (λ a. result ≡ first_busy erase a needs) }
 {
     if needs.chip_erase {
         None
     } else {
-        touched_open(array, erase.target, needs.reach)
+        touched_open(map, erase.target, needs.reach)
     }
 }
 
@@ -178,12 +181,13 @@ fn first_open(target: Target) -> u32
     }
 }
 
-// A block under erase is touched, or another erase would begin.
-fn while_open(array: &PlainArray, needs: CallNeeds) -> Option<Reply>
-    ensures { result ≡ while_open (array.now).under array.now needs }
+/// What a call is refused with by what is under erase of these blocks: `Busy` where it touches a block
+/// of that, else `Occupied` where it would begin another erase.
+pub fn while_open(map: &BlockMap, under: Option<OpenErase>, needs: CallNeeds) -> Option<Reply>
+    ensures { OfBlocks (spans_of map.now) (λ a. result ≡ while_open under a needs) }
 {
-    let open = array.under?;
-    match first_busy(array, open, needs) {
+    let open = under?;
+    match first_busy(map, open, needs) {
         Some(block) => Some(Reply::Busy { block }),
         None if needs.opens => Some(Reply::Occupied {
             block: first_open(open.target),
@@ -225,7 +229,7 @@ pub(crate) fn refusal(array: &PlainArray, caller: u8, op: &Op) -> Option<Reply>
     if has_nothing(array, caller, op) {
         return Some(Reply::Nothing);
     }
-    if let Some(reply) = while_open(array, needs) {
+    if let Some(reply) = while_open(&array.consts.map, array.under, needs) {
         return Some(reply);
     }
     not_offered(array, needs)

@@ -1,29 +1,25 @@
 -- Which lanes break off in a bus word that is programmed.
-use Rattle.std.proofs.Common.{◌≡◌, ◌<◌, ◌≤◌, ◌+◌, ◌-◌, ◌*◌, ◌/◌, ◌%◌, ◌⊎◌, inl, inr, ℕ, List, length, slice_index, sym, ap, ◌∙◌, arith, bit_and, Bool, true, false, not, ◌&&◌, ◌||◌, ◌==◌, nat_le, nat_lt, is_some}
+use Rattle.std.proofs.Common.{◌≡◌, ◌<◌, ◌≤◌, ◌+◌, ◌-◌, ◌*◌, ◌/◌, ◌%◌, ◌⊎◌, inl, inr, ℕ, List, length, slice_index, sym, ap, ◌∙◌, arith, bit_and, Bool, true, false, not, ◌&&◌, ◌||◌, ◌==◌, nat_le, nat_lt}
 use Rattle.std.specs.List.{list_any}
 use Rattle.std.proofs.lemmas.Bool.{cases_lt}
 use Rattle.std.proofs.lemmas.Bool.Decides.{nat_tests}
-use Rattle.std.proofs.lemmas.Nat.{div-add-mod'}
 use Rattle.std.proofs.Math.Nat.{mul-le-mul_right, lt_of_mul-lt-mul_right}
-use Rattle.nor_cell.specs.Bits.{unit_len, unit_bytes}
-use Rattle.nor_cell.specs.Look.{break_of, breaks, would_change}
+use Rattle.nor_cell.specs.Bits.{unit_len}
 use Rattle.nor_cell.specs.Ranges.{begin_units}
 use Rattle.nor_cell.specs.Wiring.{bank_place}
 use Rattle.nor_cell.specs.declared.device.Device.{Device}
 use Rattle.nor_cell.specs.declared.device.Device.TheVariants.{X8, X16, X16Byte}
 use Rattle.nor_cell.specs.declared.geometry.Geometry.{Geometry}
-use Rattle.nor_cell.proofs.Loading.{length-unit_bytes}
-use Rattle.nor_cell.proofs.Logic.{some_bytes, both_pass, same_self, is_below, is_at_most, passes_below}
+use Rattle.nor_cell.proofs.Logic.{both_pass, same_self, is_below, is_at_most, passes_below, all_three}
 use Rattle.nor_bank.specs.Programs.{changes_at, datum_at, unit_passes}
 use Rattle.nor_bank.proofs.Anding.{and_ones}
 use Rattle.nor_bank.proofs.Changing.{lowest_some}
 use Rattle.nor_bank.proofs.Padding.{datum_in, datum_out}
-use Rattle.nor_bank.proofs.Ranging.{in_word}
-use Rattle.nor_bank.proofs.Searching.{either, same_answer, first_passes, second_passes, any_so, any_none, any_neither, find_any, Passes, lowest_passes}
+use Rattle.nor_bank.proofs.Searching.{same_answer, any_so, any_none, any_neither, Passes, lowest_passes}
 
 -- ---- one byte
 
-at_most : (x y : ℕ) → x ≤ y → nat_le x y ≡ true
+pub at_most : (x y : ℕ) → x ≤ y → nat_le x y ≡ true
 at_most x y le = grind (arith, nat_tests)
 
 inside : (byte : ℕ → ℕ) (at : ℕ) (new : List ℕ) (a : ℕ) → at ≤ a → a < at + length new
@@ -84,9 +80,6 @@ unit_passing g test from to c p is =
     let inner = both_pass (nat_le from place) (nat_lt place to) outer.0 in
     record { begins = is_at_most from place inner.0; ends = is_below place to inner.1; byte = lowest_passes test place (unit_len g.device) outer.1 }
 
-all_three : (x y z : Bool) → x ≡ true → y ≡ true → z ≡ true → (x && y && z) ≡ true
-all_three x y z a b c = cc
-
 pub unit_passed : (g : Geometry) (test : ℕ → Bool) (from to c p q : ℕ) → from ≤ bank_place g.lanes (unit_len g.device) c p
     → bank_place g.lanes (unit_len g.device) c p < to → bank_place g.lanes (unit_len g.device) c p ≤ q
     → q < bank_place g.lanes (unit_len g.device) c p + unit_len g.device → test q ≡ true → unit_passes g test from to c p ≡ true
@@ -106,15 +99,6 @@ unit_lies n d c p below whole =
     let place : bank_place n d c p ≡ p / d * (n * d) + c * d = omega (arith, whole) in
     let fits = mul-le-mul_right d (let h : c + 1 ≤ n = omega (arith, below) in h) in
     record { place = place; begins = omega (arith, place); ends = omega (arith, place, fits) }
-
--- So it begins in a bus word where that is its own.
-pub unit_word : (n d u c p : ℕ) → 0 < d → c < n → p % d ≡ 0 → u * (n * d) ≤ bank_place n d c p → bank_place n d c p < u * (n * d) + n * d → p / d ≡ u
-unit_word n d u c p some below whole from to =
-    let lies = unit_lies n d c p below whole in
-    let begins = lies.begins in
-    let ends = lies.ends in
-    let own = in_word (n * d) (p / d) (bank_place n d c p) begins (omega (arith, ends, some)) in
-    sym own.word ∙ (in_word (n * d) u (bank_place n d c p) from to).word
 
 -- One that begins before the end of a bus word ends before it, and one that ends behind its begin begins there.
 pub unit_before : (n d v c p : ℕ) → c < n → p % d ≡ 0 → bank_place n d c p < v * (n * d) → bank_place n d c p + d ≤ v * (n * d)
@@ -136,108 +120,13 @@ unit_behind n d u c p below whole from =
     omega (arith, first, row)
 
 -- a byte of a unit is its first or its last
-unit_ends : (device : Device) (k : ℕ) → k < unit_len device → (k ≡ 0) ⊎ (k ≡ unit_len device - 1)
+pub unit_ends : (device : Device) (k : ℕ) → k < unit_len device → (k ≡ 0) ⊎ (k ≡ unit_len device - 1)
 unit_ends X8 k less = inl (omega arith)
 unit_ends X16Byte k less = inl (omega arith)
 unit_ends X16 k less = elim (cases_lt k 1) [
   | inl low ↦ inl (omega arith)
   | inr high ↦ inr (omega arith)
 ]
-
--- A chip's unit u breaks off, each byte of which would change as its place in the bank passes a test, where a weak unit of the
--- lane passes it in bus word u.
-module _ (g : Geometry) (u c v : ℕ) (test : ℕ → Bool) (cells : List ℕ) (below : c < g.lanes)
-    (same : (k : ℕ) → k < unit_len g.device
-    → would_change (slice_index cells (unit_len g.device * u + k)) (slice_index (unit_bytes g.device v) k)
-    ≡ test (u * (g.lanes * unit_len g.device) + c * unit_len g.device + k)) where
-  abbrev d : ℕ
-  d = unit_len g.device
-
-  abbrev w : ℕ
-  w = g.lanes * unit_len g.device
-
-  abbrev bytes : List ℕ
-  bytes = unit_bytes g.device v
-
-  byte_same : (i j k : ℕ) → i ≡ d * u + k → j ≡ k → k < d → would_change (slice_index cells i) (slice_index bytes j) ≡ test (u * w + c * d + k)
-  byte_same i j k at is less =
-      ap (λ (n : ℕ). would_change (slice_index cells n) (slice_index bytes j)) at
-      ∙ (ap (λ (n : ℕ). would_change (slice_index cells (d * u + k)) (slice_index bytes n)) is ∙ same k less)
-
-  -- the weak unit at place p is unit u
-  record IsHere (p : ℕ) : Type 0 where
-    at : p ≡ d * u
-    place : bank_place g.lanes d c p ≡ u * w + c * d
-    fits : c * d + d ≤ w
-
-  is_here : (p : ℕ) → p % d ≡ 0 → p / d ≡ u → IsHere p
-  is_here p whole unit =
-      let split = div-add-mod' p d in
-      let begin : p / d * d ≡ u * d = ap (λ (n : ℕ). n * d) unit in
-      let lies = unit_lies g.lanes d c p below whole in
-      let place = lies.place in
-      let word : p / d * w ≡ u * w = ap (λ (n : ℕ). n * w) unit in
-      let row = mul-le-mul_right d (let h : c + 1 ≤ g.lanes = omega (arith, below) in h) in
-      record {
-        at = omega (arith, split, begin, whole);
-        place = omega (arith, place, word);
-        fits = omega (arith, row);
-      }
-
-  chip_to_bank : (p : ℕ) → p % d ≡ 0 → breaks d (d * u) bytes cells p ≡ true → unit_passes g test (u * w) (u * w + w) c p ≡ true
-  chip_to_bank p whole is =
-      let long = length-unit_bytes g.device v in
-      let some = some_bytes g.device in
-      let first = would_change (slice_index cells p) (slice_index bytes (p - d * u)) in
-      let last = would_change (slice_index cells (p + (d - 1))) (slice_index bytes (p + (d - 1) - d * u)) in
-      let outer = both_pass (nat_le (d * u) p && nat_lt p (d * u + length bytes)) (first || last) is in
-      let inner = both_pass (nat_le (d * u) p) (nat_lt p (d * u + length bytes)) outer.0 in
-      let low : d * u ≤ p = is_at_most (d * u) p inner.0 in
-      let high : p < d * u + length bytes = is_below p (d * u + length bytes) inner.1 in
-      let here = is_here p whole (in_word d u p (omega (arith, low)) (omega (arith, high, long))).word in
-      let at = here.at in
-      let place = here.place in
-      let fits = here.fits in
-      elim (either first last outer.1) [
-        | inl is ↦
-            let byte : first ≡ test (u * w + c * d + 0) = byte_same p (p - d * u) 0 (omega (arith, at)) (omega (arith, at)) some in
-            unit_passed g test (u * w) (u * w + w) c p (u * w + c * d + 0) (omega (arith, place)) (omega (arith, place, fits, some)) (omega (arith, place)) (omega (arith, place, some))
-            (sym byte ∙ is)
-        | inr is ↦
-            let byte : last ≡ test (u * w + c * d + (d - 1)) = byte_same (p + (d - 1)) (p + (d - 1) - d * u) (d - 1) (omega (arith, at)) (omega (arith, at)) (omega (arith, some)) in
-            unit_passed g test (u * w) (u * w + w) c p (u * w + c * d + (d - 1)) (omega (arith, place)) (omega (arith, place, fits, some)) (omega (arith, place)) (omega (arith, place, some))
-            (sym byte ∙ is)
-      ]
-
-  bank_to_chip : (p : ℕ) → p % d ≡ 0 → unit_passes g test (u * w) (u * w + w) c p ≡ true → breaks d (d * u) bytes cells p ≡ true
-  bank_to_chip p whole is =
-      let long = length-unit_bytes g.device v in
-      let some = some_bytes g.device in
-      let first = would_change (slice_index cells p) (slice_index bytes (p - d * u)) in
-      let last = would_change (slice_index cells (p + (d - 1))) (slice_index bytes (p + (d - 1) - d * u)) in
-      let passing = unit_passing g test (u * w) (u * w + w) c p is in
-      let here = is_here p whole (unit_word g.lanes d u c p some below whole passing.begins passing.ends) in
-      let at = here.at in
-      let place = here.place in
-      let q = passing.byte.place in
-      let from = passing.byte.from in
-      let before = passing.byte.before in
-      let k = q - (u * w + c * d) in
-      let less : k < d = omega (arith, place, from, before) in
-      let byte : test (u * w + c * d + k) ≡ true = ap test (let h : u * w + c * d + k ≡ q = omega (arith, place, from) in h) ∙ passing.byte.passes in
-      all_three (nat_le (d * u) p) (nat_lt p (d * u + length bytes)) (first || last) (at_most (d * u) p (omega (arith, at))) (passes_below p (d * u + length bytes) (omega (arith, at, long, some)))
-      (elim (unit_ends g.device k less) [
-        | inl is ↦ first_passes first last (byte_same p (p - d * u) k (omega (arith, at, is)) (omega (arith, at, is)) less ∙ byte)
-        | inr is ↦ second_passes first last (byte_same (p + (d - 1)) (p + (d - 1) - d * u) k (omega (arith, at, is)) (omega (arith, at, is)) less ∙ byte)
-      ])
-
-  pub unit_breaking : (weak : List ℕ) → begin_units g.device weak ≡ true
-      → is_some (break_of d weak (d * u) bytes cells) ≡ list_any (unit_passes g test (u * w) (u * w + w) c) weak
-  unit_breaking weak begin =
-      find_any (breaks d (d * u) bytes cells) weak
-      ∙ same_answer (list_any (breaks d (d * u) bytes cells) weak) (list_any (unit_passes g test (u * w) (u * w + w) c) weak)
-      (any_so d (breaks d (d * u) bytes cells) (unit_passes g test (u * w) (u * w + w) c) weak begin chip_to_bank)
-      (any_so d (unit_passes g test (u * w) (u * w + w) c) (breaks d (d * u) bytes cells) weak begin bank_to_chip)
 
 -- ---- up to the end of a bus word
 

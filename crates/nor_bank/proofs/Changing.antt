@@ -50,8 +50,3 @@ passing_same w f g u zero same = refl
 passing_same w f g u (suc n) same =
     ap (λ (k : ℕ). k + (if word_passes w f (u + n) then 1 else 0)) (passing_same w f g u n same)
     ∙ ap (λ (b : Bool). words_passing w g u n + (if b then 1 else 0)) (passes_same w f g (u + n) (λ p from to. same p))
-
--- one word more
-pub cost_more : (changes : Bool) (n count most : ℕ) → n + count * most + (1 + (if changes then most else 0)) ≤ suc n + (count + (if changes then 1 else 0)) * most
-cost_more true n count most = omega arith
-cost_more false n count most = omega arith

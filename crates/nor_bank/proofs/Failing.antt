@@ -1,5 +1,5 @@
 -- A program that breaks off, as the array that the bank stands for admits it.
-use Rattle.std.proofs.Common.{◌≡◌, ◌<◌, ◌≤◌, ◌+◌, ◌-◌, ◌*◌, ◌/◌, ◌%◌, ◌⊎◌, inl, inr, ℕ, List, [], length, take, slice_index, bit_and, refl, sym, ◌∙◌, ap, subst, arith, Bool, true, false, ◌&&◌, ◌==◌, nat_le, nat_lt, None}
+use Rattle.std.proofs.Common.{◌≡◌, ◌<◌, ◌≤◌, ◌+◌, ◌-◌, ◌*◌, ◌/◌, ◌%◌, ◌⊎◌, inl, inr, ℕ, List, [], length, take, slice_index, bit_and, refl, sym, ◌∙◌, ap, subst, arith, Bool, true, false, ◌&&◌, ◌==◌, nat_le, nat_lt}
 use Rattle.std.specs.Prelude.{min, max}
 use Rattle.std.specs.List.{list_any, list_all}
 use Rattle.std.proofs.lemmas.Bool.{cases_lt}
@@ -10,38 +10,52 @@ use Rattle.nor_cell.specs.Chip.{span_end, block_at}
 use Rattle.nor_cell.specs.Wiring.{bank_place}
 use Rattle.nor_cell.specs.declared.device.Span.{Span}
 use Rattle.nor_cell.specs.declared.geometry.Geometry.{Geometry}
-use Rattle.nor_cell.proofs.Logic.{both_pass, is_below, is_at_most, passes_below}
+use Rattle.nor_cell.proofs.Logic.{both_pass, is_below, is_at_most, passes_below, not_passed}
 use Rattle.nor_poll.proofs.Between.{stored_between}
 use Rattle.nor_bus.specs.Bus.{BusState, lane, lanes_of, bank_byte, bank_bytes}
-use Rattle.nor_bus.specs.Driven.{AllLanes, Counted}
-use Rattle.nor_array.specs.Array.{ArrayState, put, range, meets}
-use Rattle.nor_array.specs.After.{after, programmed}
-use Rattle.nor_array.specs.Admits.{Unrefused, AllBetween, FailsWithin, first_locked, would_change, span_changes, program_breaks, breaks_here, breaks_before}
-use Rattle.nor_array.specs.Legal.{IsPiece, AreLanes, OthersAre, FailsInPiece, word_len}
+use Rattle.nor_bus.specs.Driven.{AllLanes, Went}
+use Rattle.nor_cell.specs.Table.{buffer_units_of}
+use Rattle.nor_query.specs.Derived.{suspend_of}
+use Rattle.nor_probe.specs.declared.probing.Found.{Found}
+use Rattle.nor_array.specs.Array.{ArrayState, Constants, put, range, meets}
+use Rattle.nor_array.specs.After.{programmed}
+use Rattle.nor_array.specs.Admits.{AllBetween, FailsWithin, would_change, span_changes, program_breaks, breaks_here, breaks_before}
+use Rattle.nor_array.specs.Legal.{Facts, IsPiece, AreLanes, OthersAre, FailsInPiece}
 use Rattle.nor_array.proofs.Puts.{length-put, put_below, put_inside, put_above, length-range, slice_index-range}
 use Rattle.nor_array.specs.declared.entry.Op.TheVariants.{Program}
 use Rattle.nor_array.specs.declared.entry.Reply.TheVariants.{Failed}
-use Rattle.nor_bank.specs.Calls.{MakesEntry, entry_of, facts_of}
+use Rattle.nor_bank.specs.Calls.{facts_of}
 use Rattle.nor_bank.specs.Programs.{BreaksOff, ByteEnds, HasWeakUnits, MeetsPiece, begin_of, end_of, changes_of, datum_at, is_of, unit_passes}
 use Rattle.nor_bank.specs.declared.programming.Piece.{Piece}
-use Rattle.nor_bank.specs.Stands.{Stands, IsOn, weak_span, weak_spans}
-use Rattle.nor_bank.specs.State.{BankState, word_bytes, size_of, byte_of, bytes_of}
-use Rattle.nor_bank.specs.Work.{with_bus, Proceeds}
+use Rattle.nor_bank.specs.Runs.{IsRun, units_in}
+use Rattle.nor_bank.specs.Stands.{is_under, weak_span, weak_spans}
+use Rattle.nor_bank.specs.State.{BankState, blocks_of, word_bytes, size_of, byte_of}
+use Rattle.nor_bank.specs.Work.{with_bus}
 use Rattle.nor_bank.proofs.Anding.{and_ones, no_bits, none_broke}
 use Rattle.nor_bank.proofs.BankBytes.{length-bank_bytes, bank_bytes-at}
 use Rattle.nor_bank.proofs.Breaking.{unit_passing, unit_passed, unit_before, unit_behind, changes_in}
 use Rattle.nor_bank.proofs.Changing.{lowest_some}
 use Rattle.nor_bank.proofs.Known.{known_own, known_word}
-use Rattle.nor_bank.proofs.OneWord.{byte_small, own_units}
+use Rattle.nor_bank.proofs.OneWord.{own_units}
 use Rattle.nor_bank.proofs.Padding.{datum_in, datum_out}
-use Rattle.nor_bank.proofs.Programmed.{and_small, between_ones, ends_unlocked, length_programmed, programmed_at}
-use Rattle.nor_bank.proofs.Refusing.{program_range, not_refused, in_range_of}
-use Rattle.nor_bank.proofs.Searching.{same_answer, not_passed, is_passed, any_so, any_weaker, lowest_passes}
-use Rattle.nor_bank.proofs.Served.{not_none}
+use Rattle.nor_bank.proofs.Programmed.{and_small, between_ones, ends_unlocked, length_programmed, programmed_at, ready_inside, ready_small, serves_lasts, under_outside}
+use Rattle.nor_bank.proofs.PiecesFree.{Ready, ready_byte}
+use Rattle.nor_bank.proofs.PiecesProgrammed.{joined}
+use Rattle.nor_bank.proofs.Ending.{EndsWork}
+use Rattle.nor_bank.proofs.Holding.{stands_served}
+use Rattle.nor_bank.proofs.Searching.{same_answer, is_passed, any_so, any_weaker, lowest_passes}
 use Rattle.nor_bank.proofs.WeakSpans.{of_lane, spans_none, spans_some, lane_spans, few_bits, with_pass, weak_units, changes_alike, spans_are}
-use Rattle.nor_bank.proofs.Standing.{is_on_now, showing_now, byte_now, stands_with}
 
 -- ---- where it breaks off
+
+-- what is known of a bank of which this was found, where these chips never end their work
+abbrev pub facts_by : Found → List Bool → Facts
+facts_by f stuck = record {
+  geometry = f.geometry;
+  buffer_units = buffer_units_of f.geometry.device f.query.buffer_log;
+  suspend = suspend_of f.query.extended;
+  stuck = stuck;
+}
 
 -- The part of a range that lies in a bus word.
 record IsPart (at end from to begin finish : ℕ) : Type 0 where
@@ -74,8 +88,8 @@ ends_ones : (broke : Bool) (x y : ℕ) → x < 256 → ByteEnds broke x 255 y �
 ends_ones false x y small is = is ∙ and_ones x small
 ends_ones true x y small is = between_ones x y small (subst (λ (n : ℕ). n < 256) is.clears_only (and_small y x small)) is
 
-module _ (b : BankState) (bus : BusState) (a : ArrayState) (at lanes : ℕ) (from : List ℕ) (piece : Piece) (fits : at + length from ≤ size_of b.found)
-    (stands : Stands b a) (on : IsOn b a) (closed : b.erase ≡ None) (filled : 0 < length from) (is_piece : IsPiece (facts_of b) a.consts.blocks piece.first piece.words)
+module _ (b : BankState) (bus : BusState) (a : ArrayState) (at lanes : ℕ) (from : List ℕ) (piece : Piece) (stuck : List Bool) (ready : Ready b a at from)
+    (is_piece : IsPiece (facts_by b.found stuck) a.consts.blocks piece.first piece.words)
     (before_end : begin_of (word_bytes b.found) piece < at + length from) (behind_start : at < end_of (word_bytes b.found) piece)
     (broke : BreaksOff b.found.geometry lanes at from (begin_of (word_bytes b.found) piece) (end_of (word_bytes b.found) piece) b.bus bus) where
   abbrev g : Geometry
@@ -102,35 +116,35 @@ module _ (b : BankState) (bus : BusState) (a : ArrayState) (at lanes : ℕ) (fro
 
   part : IsPart at (at + length from) start stop begin finish
   part =
-      let some = known_word b.found b.bus stands.known in
+      let some = known_word b.found b.bus ready.stands.known in
       let words = is_piece.some in
       let more = mul-le-mul_right w (let h : piece.first + 1 ≤ piece.first + piece.words = omega (arith, words) in h) in
-      part_is at (at + length from) start stop (omega (arith, filled)) (omega (arith, some, more)) before_end behind_start
+      part_is at (at + length from) start stop (let filled = ready.some in omega (arith, filled)) (omega (arith, some, more)) before_end behind_start
 
   units : AllLanes HasWeakUnits b.bus
-  units = weak_units b a stands
+  units = weak_units b a ready.stands
 
   small : (p : ℕ) → byte_of b p < 256
-  small p = byte_small w g.device b.bus p (known_own b.found b.bus stands.known).bank (showing_now b a stands on closed)
+  small p = ready_small b a at from ready p
 
   inside : at + length from ≤ length a.bytes
-  inside = let size = stands.size in omega arith
+  inside = ready_inside b a at from ready
 
-  old_byte : (p : ℕ) → p < at + length from → slice_index a.bytes p ≡ byte_of b p
-  old_byte p ends = byte_now b a p stands closed (omega arith)
+  old_byte : (p : ℕ) → at ≤ p → p < at + length from → slice_index a.bytes p ≡ byte_of b p
+  old_byte p begins ends = ready_byte b a at from p ready begins ends
 
   -- what would change of the bank would change of the array
   alike : (p : ℕ) → changes_of g b.bus at from p ≡ would_change a.bytes at from p
-  alike p = changes_alike b a at from stands closed fits p
+  alike p = changes_alike b a at from (λ q low high. ready_byte b a at from q ready low high) p
 
   spans : a.consts.weak ≡ weak_spans g 0 b.bus.lanes
-  spans = spans_are b a stands
+  spans = spans_are b a ready.stands
 
   lanes_are : lanes_of b.bus ≡ g.lanes
-  lanes_are = (known_own b.found b.bus stands.known).count
+  lanes_are = (known_own b.found b.bus ready.stands.known).count
 
   its_units : (c : ℕ) → c < lanes_of b.bus → list_all (λ p. p % unit_len g.device == 0) (lane b.bus c).part.weak ≡ true
-  its_units c below = own_units w g b.bus c (known_own b.found b.bus stands.known) units below
+  its_units c below = own_units w g b.bus c (known_own b.found b.bus ready.stands.known) units below
 
   -- ---- the weak spans that would change in the part
 
@@ -183,7 +197,7 @@ module _ (b : BankState) (bus : BusState) (a : ArrayState) (at lanes : ℕ) (fro
       (any_so (unit_len g.device) (unit_passes g (changes_of g b.bus at from) start stop c) (λ p. breaks_in (weak_span g c p)) weak begins (λ p whole. to_part c p low whole))
       (any_so (unit_len g.device) (λ p. breaks_in (weak_span g c p)) (unit_passes g (changes_of g b.bus at from) start stop c) weak begins (λ p whole. of_part c p low whole))
 
-  named : AreLanes (facts_of b) breaks_in a.consts.weak lanes
+  named : AreLanes (facts_by b.found stuck) breaks_in a.consts.weak lanes
   named = record {
     few = few_bits g.lanes lanes (broke.named units).past;
     each = λ c low.
@@ -268,7 +282,7 @@ module _ (b : BankState) (bus : BusState) (a : ArrayState) (at lanes : ℕ) (fro
             let p = begin + k in
             let ends = ends_at p (omega arith) (omega (arith, less)) in
             let old : byte_of b p ≡ slice_index (range a.bytes begin (finish - begin)) k =
-            sym (old_byte p (omega (arith, less, part_high))) ∙ sym (slice_index-range a.bytes begin (finish - begin) k less) in
+            sym (old_byte p (omega (arith, at_low)) (omega (arith, less, part_high))) ∙ sym (slice_index-range a.bytes begin (finish - begin) k less) in
             let place : p - at ≡ begin - at + k = omega (arith, at_low) in
             let datum : datum_at at from p ≡ slice_index (range from (begin - at) (finish - begin)) k =
             datum_in at from p (omega (arith, at_low)) (omega (arith, less, part_high)) ∙ (ap (slice_index from) place ∙ sym (slice_index-range from (begin - at) (finish - begin) k less)) in
@@ -277,7 +291,7 @@ module _ (b : BankState) (bus : BusState) (a : ArrayState) (at lanes : ℕ) (fro
             (subst (λ (n : ℕ). IsBetween (byte_of b p) (datum_at at from p) n) (sym (left_at k less)) (ends_between (is_of g lanes p) _ _ _ ends)));
       }
 
-  others : OthersAre (facts_of b) lanes begin (λ p. bit_and (slice_index a.bytes p) (slice_index from (p - at))) left
+  others : OthersAre (facts_by b.found stuck) lanes begin (λ p. bit_and (slice_index a.bytes p) (slice_index from (p - at))) left
   others k near apart =
       let part_high = part.high in
       let at_low = part.low in
@@ -289,7 +303,7 @@ module _ (b : BankState) (bus : BusState) (a : ArrayState) (at lanes : ℕ) (fro
       subst (λ (x : Bool). ByteEnds x (byte_of b p) (datum_at at from p) (bank_byte g.device bus.lanes p)) apart ends in
       left_at k less
       ∙ (stored
-      ∙ (ap (λ (n : ℕ). bit_and n (datum_at at from p)) (sym (old_byte p (omega (arith, less, part_high))))
+      ∙ (ap (λ (n : ℕ). bit_and n (datum_at at from p)) (sym (old_byte p (omega (arith, at_low)) (omega (arith, less, part_high))))
       ∙ ap (λ (n : ℕ). bit_and (slice_index a.bytes p) n) (datum_in at from p (omega (arith, at_low)) (omega (arith, less, part_high)))))
 
   -- ---- the array afterwards
@@ -326,7 +340,7 @@ module _ (b : BankState) (bus : BusState) (a : ArrayState) (at lanes : ℕ) (fro
       omega (arith, size, long, fit, some, part_high)
 
   pub failed_size : length failed_bytes ≡ size_of b.found
-  failed_size = length-put (programmed a.bytes at front) begin left room ∙ (length_programmed a.bytes at front front_fits ∙ stands.size)
+  failed_size = length-put (programmed a.bytes at front) begin left room ∙ (length_programmed a.bytes at front front_fits ∙ ready.stands.size)
 
   -- a byte outside the part that lies in the word stays
   stays_out : (p : ℕ) → start ≤ p → p < stop → (p < at) ⊎ (at + length from ≤ p) → bank_byte g.device bus.lanes p ≡ byte_of b p
@@ -372,20 +386,20 @@ module _ (b : BankState) (bus : BusState) (a : ArrayState) (at lanes : ℕ) (fro
         ∙ (get_or-take (begin - at) from (p - at) 0 (omega (arith, low, begins)) ∙ sym (datum_in at from p begins (omega (arith, low, some, part_high))))
   ]
 
-  front_at : (p : ℕ) → p < size_of b.found → slice_index (programmed a.bytes at front) p ≡ bit_and (byte_of b p) (datum_at at front p)
-  front_at p below =
-      let byte = byte_now b a p stands closed below in
+  front_at : (p : ℕ) → p < size_of b.found → is_under a.under a.consts p ≡ false → slice_index (programmed a.bytes at front) p ≡ bit_and (byte_of b p) (datum_at at front p)
+  front_at p below free =
+      let byte = ready.stands.bytes p below free in
       programmed_at a.bytes at front p front_fits (subst (λ (n : ℕ). n < 256) (sym byte) (small p)) ∙ ap (λ (n : ℕ). bit_and n (datum_at at front p)) byte
 
-  pub failed_each : (p : ℕ) → p < size_of b.found → slice_index failed_bytes p ≡ bank_byte g.device bus.lanes p
-  failed_each p below =
+  pub failed_each : (p : ℕ) → p < size_of b.found → is_under a.under a.consts p ≡ false → slice_index failed_bytes p ≡ bank_byte g.device bus.lanes p
+  failed_each p below free =
       let base = programmed a.bytes at front in
       let size = left_size in
       let some = part.some in
       elim (cases_lt p begin) [
         | inl low ↦
             put_below base begin left room p low
-            ∙ (front_at p below ∙ (ap (λ (n : ℕ). bit_and (byte_of b p) n) (front_datum p low) ∙ sym (done_below p low)))
+            ∙ (front_at p below free ∙ (ap (λ (n : ℕ). bit_and (byte_of b p) n) (front_datum p low) ∙ sym (done_below p low)))
         | inr begins ↦ elim (cases_lt p finish) [
           | inl ends ↦
               let place : begin + (p - begin) ≡ p = omega (arith, begins) in
@@ -395,68 +409,86 @@ module _ (b : BankState) (bus : BusState) (a : ArrayState) (at lanes : ℕ) (fro
               let long = front_size in
               let at_low = part.low in
               put_above base begin left room p (omega (arith, size, past, some))
-              ∙ (front_at p below
+              ∙ (front_at p below free
               ∙ (ap (λ (n : ℕ). bit_and (byte_of b p) n) (datum_out at front p (inr (omega (arith, long, at_low, begins))))
               ∙ (and_ones (byte_of b p) (small p) ∙ sym (same_behind p past))))
         ]
       ]
+
+  -- what is under erase stays
+  pub under_stays : (p : ℕ) → is_under a.under a.consts p ≡ true → bank_byte g.device bus.lanes p ≡ byte_of b p
+  under_stays p is = elim (under_outside b a at from ready p is) [
+    | inl out ↦
+        let low = part.low in
+        done_below p (omega (arith, out, low)) ∙ sym (ones_keep p (inl out))
+    | inr out ↦
+        let part_high = part.high in
+        same_behind p (omega (arith, out, part_high))
+  ]
 
   -- ---- the entry
 
   pub fails_within : FailsWithin a at from begin finish left
   fails_within = record { begins = part.low; some = part.some; ends = part.high; here = here; not_before = not_before; between = between }
 
-  pub fails_in_piece : FailsInPiece (facts_of b) a at from begin finish lanes left
+  pub fails_in_piece : FailsInPiece (facts_by b.found stuck) a at from begin finish lanes left
   fails_in_piece = record { first = piece.first; words = piece.words; piece = is_piece; begins = refl; ends = refl; named = named; others = others }
 
--- a piece of one word
-one_piece : (b : BankState) (blocks : List Span) (piece : Piece) → piece.words ≡ 1 → IsPiece (facts_of b) blocks piece.first piece.words
-one_piece b blocks piece alone =
-    let own : piece.first ≡ piece.first + 1 - 1 = omega arith in
-    let facts = facts_of b in
-    subst (λ (n : ℕ). IsPiece facts blocks piece.first n) (sym alone) (record {
-      some = omega arith;
-      alone = λ none. refl;
-      page = λ some. ap (λ (n : ℕ). n / facts.buffer_units) own;
-      block = ap (λ (n : ℕ). block_at blocks (n * word_len facts)) own;
-    })
+-- a run is a piece
+pub run_piece : (f : Found) (blocks : List Span) (stuck : List Bool) (test : ℕ → Bool) (at len first words : ℕ) → blocks ≡ blocks_of f → IsRun (word_bytes f) f test at len first words
+    → IsPiece (facts_by f stuck) blocks first words
+run_piece f blocks stuck test at len first words same run =
+    let w = word_bytes f in
+    let some = run.some in
+    let last = first + words - 1 in
+    let join = λ (more : 1 < words). joined w f first last (run.together last (omega (arith, more)) (omega (arith, more))) in
+    let alone = λ (one : words ≤ 1). (let h : first ≡ last = omega (arith, one, some) in h) in
+    record {
+      some = some;
+      alone = λ none. elim (cases_lt 1 words) [
+        | inl more ↦ (let units = (join more).some in absurd (omega (arith, units, none)))
+        | inr one ↦ omega (arith, one, some)
+      ];
+      page = λ buffered. elim (cases_lt 1 words) [
+        | inl more ↦ sym (join more).page
+        | inr one ↦ ap (λ (n : ℕ). n / units_in f) (alone one)
+      ];
+      block = elim (cases_lt 1 words) [
+        | inl more ↦ subst (λ (bs : List Span). block_at bs (first * w) ≡ block_at bs (last * w)) (sym same) (sym (join more).block)
+        | inr one ↦ ap (λ (n : ℕ). block_at blocks (n * w)) (alone one)
+      ];
+    }
 
--- A program that broke off in a piece.
-pub program_failed : (b new : BankState) (a : ArrayState) (caller at lanes least most : ℕ) (from : List ℕ) (piece : Piece) → Stands b a → b.erase ≡ None
-    → first_locked a (Program at from) ≡ None → Proceeds (Program at from) b → 0 < length from → new ≡ with_bus b new.bus
-    → MeetsPiece (word_bytes b.found) piece at (length from)
-    → BreaksOff b.found.geometry lanes at from (begin_of (word_bytes b.found) piece) (end_of (word_bytes b.found) piece) b.bus new.bus
-    → Counted least most b.bus new.bus
-    → MakesEntry b new
-    (entry_of b new caller (Program at from)
-    (Failed (max at (begin_of (word_bytes b.found) piece)) (min (at + length from) (end_of (word_bytes b.found) piece)) lanes) []) a
-program_failed b new a caller at lanes least most from piece stands closed unlocked none some same meets broke counted =
+-- A program in a piece of which lanes broke off.
+pub program_failed : (b : BankState) (a : ArrayState) (at caller lanes n : ℕ) (from : List ℕ) (piece : Piece) (stuck : List Bool) (old : BankState) (bus : BusState) → Ready b a at from
+    → facts_of old ≡ facts_by b.found stuck
+    → MeetsPiece (word_bytes b.found) piece at (length from) → IsRun (word_bytes b.found) b.found (changes_of b.found.geometry b.bus at from) at (length from) piece.first piece.words
+    → BreaksOff b.found.geometry lanes at from (begin_of (word_bytes b.found) piece) (end_of (word_bytes b.found) piece) b.bus bus → Went n n b.bus bus
+    → EndsWork caller (Program at from) old b (with_bus b bus)
+    (Failed (max at (begin_of (word_bytes b.found) piece)) (min (at + length from) (end_of (word_bytes b.found) piece)) lanes) [] a
+program_failed b a at caller lanes n from piece stuck old bus ready facts meets run broke went =
     let w = word_bytes b.found in
     let begin = max at (begin_of w piece) in
     let finish = min (at + length from) (end_of w piece) in
-    let op = Program at from in
     let reply = Failed begin finish lanes in
-    let way = in_range_of b at (length from) none.unrefused in
-    let on = is_on_now b a stands none.running in
-    let went = counted.went in
-    let e = entry_of b new caller op reply [] in
-    let is_piece = one_piece b a.consts.blocks piece meets.alone in
+    let stands = ready.stands in
+    let blocks : a.consts.blocks ≡ blocks_of b.found = ap (λ (k : Constants). k.blocks) stands.consts in
+    let is_piece = run_piece b.found a.consts.blocks stuck (changes_of b.found.geometry b.bus at from) at (length from) piece.first piece.words blocks run in
     let before = meets.before_end in
     let behind = meets.behind_start in
-    let its = left b new.bus a at lanes from piece way.within stands on closed some is_piece before behind broke in
-    let bytes : e.bytes ≡ its = ap (λ (x : BankState). bytes_of x begin (finish - begin)) same in
-    let ends = fails_within b new.bus a at lanes from piece way.within stands on closed some is_piece before behind broke in
-    let fails = fails_in_piece b new.bus a at lanes from piece way.within stands on closed some is_piece before behind broke in
-    let breaks = whole_breaks b new.bus a at lanes from piece way.within stands on closed some is_piece before behind broke in
-    let now = stands_with b new.bus a (failed_bytes b new.bus a at lanes from piece way.within stands on closed some is_piece before behind broke)
-    counted.cycles counted.cycles stands none.running closed went.kept.count broke.lasts broke.shown (went.power on.power) went.armed
-    (failed_size b new.bus a at lanes from piece way.within stands on closed some is_piece before behind broke)
-    (failed_each b new.bus a at lanes from piece way.within stands on closed some is_piece before behind broke) in
+    let its = left b bus a at lanes from piece stuck ready is_piece before behind broke in
+    let bytes = failed_bytes b bus a at lanes from piece stuck ready is_piece before behind broke in
+    let lasts = broke.lasts in
+    let serves = serves_lasts b.bus bus went.kept.count lasts broke.shown in
     record {
-      admitted = not_refused b a caller op e (program_range at from) stands closed none refl refl
-          (subst (λ (p : Bool). Unrefused p e a) (sym (not_none (length from) some))
-          (ends_unlocked a op reply e.bytes unlocked (breaks, subst (λ (xs : List ℕ). FailsWithin a at from begin finish xs) (sym bytes) ends)));
-      agrees = subst (λ (xs : List ℕ). FailsInPiece (facts_of b) a at from begin finish lanes xs) (sym bytes) fails;
-      stands = subst (λ (v : BankState). Stands v (after a e)) (sym same)
-          (subst (λ (xs : List ℕ). Stands (with_bus b new.bus) (record a { bytes = put (programmed a.bytes at (take (begin - at) from)) begin xs })) (sym bytes) now);
+      ends = ends_unlocked a (Program at from) reply its ready.unlocked
+          (whole_breaks b bus a at lanes from piece stuck ready is_piece before behind broke, fails_within b bus a at lanes from piece stuck ready is_piece before behind broke);
+      agrees = subst (λ (facts : Facts). FailsInPiece facts a at from begin finish lanes its) (sym facts) (fails_in_piece b bus a at lanes from piece stuck ready is_piece before behind broke);
+      serves = serves;
+      stands =
+          stands_served b bus a bytes a.locks n n stands ready.running ready.chips.shown went serves (λ none. refl) refl
+          (λ c below. let there : c < lanes_of b.bus = subst (λ (m : ℕ). c < m) went.kept.count below in (lasts c there).locks ∙ stands.locks c there)
+          (failed_size b bus a at lanes from piece stuck ready is_piece before behind broke)
+          (λ p below under. under_stays b bus a at lanes from piece stuck ready is_piece before behind broke p under)
+          (λ p below free. failed_each b bus a at lanes from piece stuck ready is_piece before behind broke p below free);
     }

@@ -1,7 +1,7 @@
 -- What passes a test: of a list, and of the numbers from one place on.
 use Rattle.std.proofs.Common.{◌≡◌, ◌<◌, ◌≤◌, ◌+◌, ◌%◌, ◌⊎◌, inl, inr, ℕ, zero, suc, List, [], ◌∷◌, map, refl, sym, ◌∙◌, ap, arith, Bool, true, false, ◌||◌, ◌==◌, cond, Option, Some, is_some, if◌then◌else◌}
 use Rattle.std.specs.List.{find, list_any, list_all}
-use Rattle.nor_cell.proofs.Logic.{both_pass, same_number}
+use Rattle.nor_cell.proofs.Logic.{both_pass, same_number, not_passed}
 use Rattle.nor_array.specs.Array.{lowest}
 use Rattle.nor_poll.proofs.Between.{right_false}
 
@@ -11,10 +11,6 @@ pub same_answer : (a b : Bool) → (a ≡ true → b ≡ true) → (b ≡ true �
 same_answer true b to from = sym (to refl)
 same_answer false true to from = from refl
 same_answer false false to from = refl
-
-pub not_passed : (b : Bool) → (b ≡ true → ⊥) → b ≡ false
-not_passed true never = absurd (never refl)
-not_passed false never = refl
 
 pub either : (a b : Bool) → (a || b) ≡ true → (a ≡ true) ⊎ (b ≡ true)
 either true b passes = inl refl

@@ -10,7 +10,7 @@ use Rattle.nor_cell.specs.Chip.{ChipState}
 use Rattle.nor_cell.specs.Wiring.{lane_at, bank_place}
 use Rattle.nor_cell.specs.declared.device.Span.{Span}
 use Rattle.nor_cell.specs.declared.geometry.Geometry.{Geometry}
-use Rattle.nor_cell.proofs.Logic.{both_pass, same_number, same_self, some_bytes}
+use Rattle.nor_cell.proofs.Logic.{both_pass, same_number, same_self, some_bytes, not_passed}
 use Rattle.nor_poll.proofs.Between.{neither}
 use Rattle.nor_lane.proofs.Places.{lane_at-bank_place}
 use Rattle.nor_bus.specs.Bus.{lane, chip_at}
@@ -24,7 +24,7 @@ use Rattle.nor_bank.proofs.Anding.{no_bits, none_broke}
 use Rattle.nor_bank.proofs.Breaking.{unit_passed, changes_in}
 use Rattle.nor_bank.proofs.Changing.{changes_same}
 use Rattle.nor_bank.proofs.Known.{known_own}
-use Rattle.nor_bank.proofs.Searching.{same_answer, not_passed, is_passed, any_weaker, any_map, first_passes, second_passes, lowest_passes}
+use Rattle.nor_bank.proofs.Searching.{same_answer, is_passed, any_weaker, any_map, first_passes, second_passes, lowest_passes}
 use Rattle.nor_bank.proofs.Standing.{byte_now}
 
 -- ---- the weak spans of all chips
@@ -130,18 +130,17 @@ pub weak_units : (b : BankState) (a : ArrayState) → Stands b a → AllLanes Ha
 weak_units b a stands c below = (stands.known.wired.chips c below).chip.weak_units
 
 -- what would change of the bank would change of the array
-pub changes_alike : (b : BankState) (a : ArrayState) (at : ℕ) (new : List ℕ) → Stands b a → b.erase ≡ None → at + length new ≤ size_of b.found → (p : ℕ)
+pub changes_alike : (b : BankState) (a : ArrayState) (at : ℕ) (new : List ℕ) → ((p : ℕ) → at ≤ p → p < at + length new → slice_index a.bytes p ≡ byte_of b p) → (p : ℕ)
     → changes_of b.found.geometry b.bus at new p ≡ would_change a.bytes at new p
-changes_alike b a at new stands closed within p =
-    changes_same (byte_of b) (slice_index a.bytes) at new p (λ begins ends. sym (byte_now b a p stands closed (omega (arith, ends, within))))
+changes_alike b a at new same p = changes_same (byte_of b) (slice_index a.bytes) at new p (λ begins ends. sym (same p begins ends))
 
 pub spans_are : (b : BankState) (a : ArrayState) → Stands b a → a.consts.weak ≡ weak_spans b.found.geometry 0 b.bus.lanes
 spans_are b a stands = ap (λ (k : Constants). k.weak) stands.consts
 
 -- A program in which no lane breaks off changes no weak span.
-pub never_breaks : (b : BankState) (a : ArrayState) (at : ℕ) (new : List ℕ) → Stands b a → b.erase ≡ None → at + length new ≤ size_of b.found
+pub never_breaks : (b : BankState) (a : ArrayState) (at : ℕ) (new : List ℕ) → Stands b a → ((p : ℕ) → at ≤ p → p < at + length new → slice_index a.bytes p ≡ byte_of b p)
     → BreakThere b.found.geometry 0 at new 0 (at + length new) b.bus → program_breaks a at new ≡ false
-never_breaks b a at new stands closed within whole =
+never_breaks b a at new stands same whole =
     let g = b.found.geometry in
     let d = unit_len g.device in
     let end = at + length new in
@@ -160,6 +159,6 @@ never_breaks b a at new stands closed within whole =
     let range = changes_in (slice_index a.bytes) at new byte.place byte.passes in
     let last = range.1 in
     unit_passed g (changes_of g b.bus at new) 0 end k p byte.place (omega arith) (omega (arith, from, last)) from byte.before
-    (changes_alike b a at new stands closed within byte.place ∙ byte.passes)) its in
+    (changes_alike b a at new same byte.place ∙ byte.passes)) its in
     let both : true ≡ false = sym broken ∙ (sym (none.each k low) ∙ none_broke k) in
     cc))

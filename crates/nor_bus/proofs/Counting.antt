@@ -24,4 +24,4 @@ counted_then l m n o k q a b c ge le x y =
 
 -- Power went after some cycles.
 pub counted_lost : (l m o q : ℕ) (a b c : BusState) → m + o ≤ q → Counted l m a b → Lost o b c → Lost q a c
-counted_lost l m o q a b c le x lost = let s = x.few in lost_then x.cycles x.cycles o q a b c (omega (arith, le, s)) x.went lost
+counted_lost l m o q a b c le x lost = let s = x.few in lost_then x.cycles o q a b c (omega (arith, le, s)) x.went lost

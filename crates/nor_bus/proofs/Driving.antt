@@ -66,10 +66,6 @@ nearer_none : (armed : Option Armed) → Nearer 0 0 armed armed
 nearer_none None = tt
 nearer_none (Some armed) = (omega arith, omega arith, refl)
 
-nearer_still : (armed : Option Armed) → Nearer 0 1 armed armed
-nearer_still None = tt
-nearer_still (Some armed) = (omega arith, omega arith, refl)
-
 nearer_then : (l m n o k q : ℕ) (x y z : Option Armed) → k ≤ l + n → m + o ≤ q → Nearer l m x y → Nearer n o y z → Nearer k q x z
 nearer_then l m n o k q None None None ge le a b = tt
 nearer_then l m n o k q None None (Some z) ge le a b = absurd b
@@ -167,25 +163,34 @@ lost_one a b due f k = record {
   power = f.power;
   was_armed = due_was_armed a.power a.armed due;
   due = due_now a.power a.armed due;
-  armed = subst (λ (x : Option Armed). Nearer 0 1 a.armed x) (sym f.armed) (nearer_still a.armed);
+  cycles = 0;
+  before = omega arith;
+  armed = subst (λ (x : Option Armed). Nearer 0 0 a.armed x) (sym f.armed) (nearer_none a.armed);
   rose = let e = f.cycles in omega arith;
   few = let e = f.cycles in omega arith;
   failed = f.failed;
   kept = k;
 }
 
--- Power went after some cycles.
-pub lost_then : (l m o q : ℕ) (a b c : BusState) → m + o ≤ q → Went l m a b → Lost o b c → Lost q a c
-lost_then l m o q a b c le w x = record {
+-- Power went after n cycles.
+pub lost_then : (n o q : ℕ) (a b c : BusState) → n + o ≤ q → Went n n a b → Lost o b c → Lost q a c
+lost_then n o q a b c le w x = record {
+  cycles = n + x.cycles;
+  before = let p = x.before in omega (arith, le, p);
   power = x.power;
-  was_armed = λ on none. x.was_armed (w.power on) (still_none l m a.armed b.armed w.armed none);
-  due = λ on. due_then l m o q a.armed b.armed le w.armed (x.due (w.power on));
-  armed = nearer_then l m 0 o 0 q a.armed b.armed c.armed (omega arith) le w.armed x.armed;
+  was_armed = λ on none. x.was_armed (w.power on) (still_none n n a.armed b.armed w.armed none);
+  due = λ on. due_then n n o q a.armed b.armed le w.armed (x.due (w.power on));
+  armed = nearer_then n n x.cycles x.cycles (n + x.cycles) (n + x.cycles) a.armed b.armed c.armed (omega arith) (omega arith) w.armed x.armed;
   rose = let p = w.enough in let r = x.rose in omega (arith, p, r);
-  few = let p = w.few in let r = x.few in omega arith;
-  failed = subst (λ (n : ℕ). more 1 n ≤ c.failed) w.failed x.failed;
+  few = let p = w.few in let r = x.few in omega (arith, p, r);
+  failed = subst (λ (m : ℕ). more 1 m ≤ c.failed) w.failed x.failed;
   kept = keeps_then a b c w.kept x.kept;
 }
+
+-- as many reached the chips
+pub lost_cycles : (n o q : ℕ) (a b c : BusState) (le : n + o ≤ q) (w : Went n n a b) (x : Lost o b c) → (lost_then n o q a b c le w x).cycles ≡ n + x.cycles
+unfolding lost_then
+lost_cycles n o q a b c le w x = refl
 
 -- how many bytes of the word a lane takes
 pub device_of : (width : ℕ) (device : Device) (bus : BusState) (c : ℕ) → IsBank width device bus.lanes → c < lanes_of bus → wide (lane bus c) ≡ unit_len device

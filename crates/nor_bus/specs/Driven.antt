@@ -51,13 +51,16 @@ IsDue most (Some cut) = cut.after < most
 
 -- A cycle of a call failed, as power went or was off. Together with those before it there were at most `most`.
 pub record Lost (most : ℕ) (old new : BusState) : Type 0 where
+  -- how many reached the chips before it
+  pub cycles : ℕ
+  pub before : cycles < most
   pub power : new.power ≡ false
   pub was_armed : old.power ≡ true → old.armed ≡ None → ⊥
   -- power went by the armed cut, which came within the call; it stays armed
   pub due : old.power ≡ true → IsDue most old.armed
-  pub armed : Nearer 0 most old.armed new.armed
-  pub rose : more 0 old.cycles ≤ new.cycles
-  pub few : new.cycles < old.cycles + most
+  pub armed : Nearer cycles cycles old.armed new.armed
+  pub rose : more cycles old.cycles ≤ new.cycles
+  pub few : new.cycles ≤ old.cycles + cycles
   pub failed : more 1 old.failed ≤ new.failed
   pub kept : KeepsLanes old new
 

@@ -9,6 +9,7 @@ use Rattle.nor_cell.specs.Simulated.{CutsJob, CutsHeld, CutsBy}
 use Rattle.nor_cell.specs.Steps.{Keeps}
 use Rattle.nor_cell.specs.declared.device.Span.{Span}
 use Rattle.nor_cell.proofs.Changing.{partly_between}
+use Rattle.nor_cell.proofs.Logic.{none_pass}
 
 -- ---- a range of changes, by the test of a span
 
@@ -26,11 +27,6 @@ kept_outside span P old new p h e = go (nat_lt p span.from) refl
     go false e2 = let high : span_end span ≤ p = grind (arith, nat_tests) in h.above p high
 
 -- ---- both tests of an alternative
-
-none_pass : (a b : Bool) → (a || b) ≡ false → (a ≡ false) × (b ≡ false)
-none_pass true b h = cc
-none_pass false true h = cc
-none_pass false false h = (refl, refl)
 
 some_passes : (a b : Bool) → (a || b) ≡ true → b ≡ false → a ≡ true
 some_passes true b h k = refl

@@ -1,141 +1,138 @@
 -- What reads and programs of the bank make is what the driver needs of them.
-use Rattle.std.proofs.Common.{◌≡◌, ◌≢◌, ◌<◌, ◌≤◌, ◌+◌, ◌∙◌, ◌⊎◌, inl, inr, ℕ, List, [], length, Bool, true, false, Option, Some, None, slice_index_or, refl, sym, ap, subst}
+use Rattle.std.proofs.Common.{◌≡◌, ◌≢◌, ◌≤◌, ◌+◌, ◌∙◌, ◌⊎◌, inl, inr, ℕ, List, [], Bool, true, false, Option, Some, None, refl, sym, ap, subst}
 use Rattle.std.specs.Prelude.{IfSome}
-use Rattle.nor_cell.specs.Chip.{Part}
-use Rattle.nor_bus.specs.Bus.{lanes_of}
-use Rattle.nor_bus.specs.Driven.{Went}
+use Rattle.nor_cell.specs.Chip.{ChipState}
+use Rattle.nor_bus.specs.Bus.{BusState, lane, chip_at}
+use Rattle.nor_bus.specs.Cycles.{BusFails}
+use Rattle.nor_bus.specs.Driven.{EachLane, Went}
 use Rattle.nor_array.specs.Array.{ArrayState}
-use Rattle.nor_array.specs.After.{after}
+use Rattle.nor_array.specs.After.{after, after_reply}
 use Rattle.nor_array.specs.Needs.{needs_of}
-use Rattle.nor_array.specs.Refusals.{is_power_on}
 use Rattle.nor_array.specs.declared.needs.Reach.TheVariants.{Range}
 use Rattle.nor_array.specs.declared.entry.Entry.{Entry}
-use Rattle.nor_array.specs.declared.entry.Halted.{Halted as HaltCause}
+use Rattle.nor_array.specs.declared.entry.Halted.TheVariants.{Off as OffHalt}
 use Rattle.nor_array.specs.declared.entry.Op.{Op}
 use Rattle.nor_array.specs.declared.entry.Op.TheVariants.{Read, Program, Poll}
 use Rattle.nor_array.specs.declared.entry.Reply.{Reply}
-use Rattle.nor_array.specs.declared.entry.Reply.TheVariants.{Done, Erased, OutOfRange, TooLong, Nothing, Failed, Halted}
+use Rattle.nor_array.specs.declared.entry.Reply.TheVariants.{Done, Opened, Erased, OutOfRange, TooLong, Locked, Nothing, NotYet, Failed, Halted}
 use Rattle.nor_array.specs.declared.state.ArmedCut.{ArmedCut}
-use Rattle.nor_bank.specs.Calls.{IsCall, MakesEntry, entry_of, entry_bytes, given_by}
+use Rattle.nor_array.proofs.Unlocked.{is_range}
+use Rattle.nor_bank.specs.Calls.{MakesEntry, entry_of, entry_bytes, given_by}
+use Rattle.nor_bank.specs.Counts.{Spends, Asked, KeepsErase, erases_after}
 use Rattle.nor_bank.specs.Ranges.{words_met}
+use Rattle.nor_bank.specs.Refused.{bank_refusal, outline, Refuses, Works}
 use Rattle.nor_bank.specs.Stands.{Stands}
 use Rattle.nor_bank.specs.State.{BankState, size_of, word_bytes}
-use Rattle.nor_bank.specs.Work.{UsesBus, CanCall, MayAnswer, ReadAnswers, ProgramAnswers, range_refusal, refusal_of, words_in}
-use Rattle.nor_bank.proofs.Called.{can_make}
+use Rattle.nor_bank.specs.Whole.{IsCallOf, MakesCall, may_answer}
+use Rattle.nor_bank.specs.Work.{range_refusal, words_in}
+use Rattle.nor_bank.proofs.Using.{UsesBus}
+use Rattle.nor_bank.specs.declared.kept.Erasing.{Erasing}
 use Rattle.nor_bank.proofs.Refusing.{refusal_is}
+use Rattle.nor_bank.proofs.RangeCalls.{IsAnswer, Way, is_plain, way_of, answer, answer_opens, done_runs, erases_stay, range_closed, range_stays, uses}
 use Rattle.nor_turn.specs.Fronts.{Name}
-use Rattle.nor_driver.specs.Fronts.{risen, words_of, cycles_left, ClosesOwn}
+use Rattle.nor_driver.specs.Fronts.{risen, opens, words_of, cycles_left, ClosesOwn}
 use Rattle.nor_driver.specs.Made.{GoesOn, Rests, is_waited_out}
-use Rattle.nor_array.proofs.Unlocked.{is_range, range_locks}
 use Rattle.nor_driver.proofs.Afters.{range_call}
-use Rattle.nor_driver.proofs.Cuts.{words_none, words_some}
-use Rattle.nor_driver.proofs.Replies.{false_true, is_plain, plain_other, plain_given, plain_opens, loses_failed}
+use Rattle.nor_driver.proofs.Cuts.{on_bus, left_less, words_none, words_some}
+use Rattle.nor_driver.proofs.Replies.{false_true, plain_other, plain_given, plain_opens, not_nothing, loses_failed}
 
--- ---- what a read or a program is answered
+-- the bytes of an entry hang on what is given in a read alone that is done
+given_bytes : (r : Reply) (op : Op) (given told : List ℕ) (old new : BankState) → (r ≡ Done → given_by op given ≡ given_by op told)
+    → entry_bytes r op given old new ≡ entry_bytes r op told old new
+given_bytes Done op given told old new same = same refl
+given_bytes r op given told old new same = refl
 
-pub read_plain : (cycles : ℕ) (r : Reply) → ReadAnswers cycles r → is_plain r ≡ true
-read_plain cycles Done ok = refl
-read_plain cycles (Halted cause) ok = refl
-read_plain cycles r ok = absurd ok
-
-pub program_plain : (lanes cycles at len : ℕ) (r : Reply) → ProgramAnswers lanes cycles at len r → is_plain r ≡ true
-program_plain lanes cycles at len Done ok = refl
-program_plain lanes cycles at len (Failed from to broken) ok = refl
-program_plain lanes cycles at len (Halted cause) ok = refl
-program_plain lanes cycles at len r ok = absurd ok
-
-range_plain : (op : Op) (b : BankState) (r : Reply) → is_range op ≡ true → MayAnswer op b r → is_plain r ≡ true
-range_plain (Read at len) b r range ok = read_plain b.after r ok
-range_plain (Program at new) b r range ok = program_plain b.found.geometry.lanes b.after at (length new) r ok
-range_plain op b r range ok = absurd (false_true range)
-
-not_power : (op : Op) → is_range op ≡ true → is_power_on op ≡ false
-not_power (Read at len) range = refl
-not_power (Program at new) range = refl
-not_power op range = absurd (false_true range)
-
--- each such reply is plain, and where it is Done no halt was kept
-pub record IsAnswer (b : BankState) (r : Reply) : Type 0 where
-  pub plain : is_plain r ≡ true
-  pub runs : r ≡ Done → b.halted ≡ None
-
-refusal_answer : (b : BankState) (r : Reply) → (r ≡ OutOfRange) ⊎ (r ≡ TooLong) → IsAnswer b r
-refusal_answer b r (inl is) = subst (λ (x : Reply). IsAnswer b x) (sym is) (record { plain = refl; runs = λ e. absurd (cc) })
-refusal_answer b r (inr is) = subst (λ (x : Reply). IsAnswer b x) (sym is) (record { plain = refl; runs = λ e. absurd (cc) })
-
-pub range_answer : (old new : BankState) (caller : ℕ) (op : Op) (r : Reply) (given : List ℕ) → is_range op ≡ true → IsCall caller op old new r given → IsAnswer old r
-range_answer old new caller op r given range call = by_refusal (refusal_of old op) refl
-  where
-    by_kept : (k : Option HaltCause) → refusal_of old op ≡ None → old.halted ≡ k → IsAnswer old r
-    by_kept None none runs = record { plain = range_plain op old r range (call.answers (record { unrefused = none; running = runs })); runs = λ done. runs }
-    by_kept (Some cause) none halted =
-        subst (λ (x : Reply). IsAnswer old x) (sym (call.kept cause (not_power op range) none halted).answer) (record { plain = refl; runs = λ e. absurd (cc) })
-
-    by_refusal : (o : Option Reply) → refusal_of old op ≡ o → IsAnswer old r
-    by_refusal None none = by_kept old.halted none refl
-    by_refusal (Some x) some =
-        refusal_answer old r (subst (λ (y : Reply). (y ≡ OutOfRange) ⊎ (y ≡ TooLong)) (sym (call.refused x some).0) (refusal_is old.found (needs_of op).reach x some))
+given_entry : (r : Reply) (op : Op) (caller : ℕ) (given told : List ℕ) (old new : BankState) (a : ArrayState) → (r ≡ Done → given_by op given ≡ given_by op told)
+    → MakesEntry old new (entry_of old new caller op r given) a → MakesEntry old new (entry_of old new caller op r told) a
+given_entry r op caller given told old new a same makes =
+    subst (λ (bytes : List ℕ). MakesEntry old new (record { caller = caller; op = op; reply = r; bytes = bytes }) a) (given_bytes r op given told old new same) makes
 
 -- ---- a call of a range
 
 -- What such a call makes, and that it is given and tells something.
 pub record MakesRange (old new : BankState) (e : Entry) : Type 0 where
-  pub makes : is_waited_out e.reply ≡ false → (a : ArrayState) → CanCall old a → GoesOn old new e a
-  pub rests : is_waited_out e.reply ≡ true → (a : ArrayState) → CanCall old a → Rests old new a
+  pub makes : is_waited_out e.reply ≡ false → (a : ArrayState) → Stands old a → GoesOn old new e a
+  pub rests : is_waited_out e.reply ≡ true → (a : ArrayState) → Stands old a → Rests old new a
   pub some : e.reply ≢ Nothing
-
-makes_range : (old new : BankState) (e : Entry) → is_plain e.reply ≡ true → ((a : ArrayState) → CanCall old a → GoesOn old new e a) → MakesRange old new e
-makes_range old new e plain makes = record {
-  makes = λ given. makes;
-  rests = λ waits. absurd (plain_given e.reply plain waits);
-  some = plain_other e.reply Nothing plain refl;
-}
 
 range_closes : (opener : Option Name) (name : Name) (op : Op) (r : Reply) → is_range op ≡ true → is_plain r ≡ true → ClosesOwn opener name r op
 range_closes opener name op Erased range plain = absurd (false_true plain)
 range_closes opener name Poll (Failed from to lanes) range plain = absurd (false_true range)
 range_closes opener name op r range plain = tt
 
--- what the bank's clauses give
-goes : (old new : BankState) (a : ArrayState) (caller : ℕ) (op : Op) (r : Reply) (given bytes : List ℕ) → is_range op ≡ true → is_plain r ≡ true
-    → CanCall old a → IsCall caller op old new r given → MakesEntry old new (record { caller = caller; op = op; reply = r; bytes = bytes }) a
-    → ((cut : ArmedCut) → a.armed ≡ Some cut
-    → words_of (word_bytes old.found) r op + cycles_left (after a (record { caller = caller; op = op; reply = r; bytes = bytes })).power new.bus.armed ≤ cycles_left a.power old.bus.armed)
-    → GoesOn old new (record { caller = caller; op = op; reply = r; bytes = bytes }) a
-goes old new a caller op r given bytes range plain can call makes reads =
-    let keeps = call.keeps in
-    let lasts = call.lasts a (can_make old a op range can) in
-    record {
-      admitted = makes.admitted;
-      agrees = makes.agrees;
-      can = record {
-        stands = makes.stands;
-        closed = keeps.erase can.closed;
-        built = λ c below.
-            let there : c < lanes_of old.bus = subst (λ (n : ℕ). c < n) keeps.lanes.count below in
-            ap (λ (p : Part). p.weak) (keeps.lanes.each c there).part ∙ can.built c there;
-        unlocked = λ n. ap (λ (locks : List Bool). slice_index_or locks n false) (range_locks r caller op bytes a range) ∙ can.unlocked n;
-      };
-      call = range_call op range;
-      closes = λ name opener. range_closes opener name op r range plain;
-      found = keeps.found;
-      lanes = keeps.lanes;
-      lasts = lasts;
-      erases = λ c below. (lasts c below).erases ∙ sym (ap (risen _) (plain_opens r plain));
-      failed = loses_failed r old.bus.failed new.bus.failed call.uses.failed call.off;
-      reads = reads;
-    }
+-- the words that a read reads come off the cycles that are left
+abbrev Reads : (old new : BankState) → Entry → Type 0
+Reads old new e =
+    (a : ArrayState) (cut : ArmedCut) → Stands old a → Stands new (after a e) → a.armed ≡ Some cut
+    → words_of (word_bytes old.found) e.reply e.op + cycles_left (after a e).power new.bus.armed ≤ cycles_left a.power old.bus.armed
 
--- the bytes of an entry hang on what is given in a read alone that is done
-given_bytes : (r : Reply) (op : Op) (given : List ℕ) (old new : BankState) → (r ≡ Done → given_by op [] ≡ given_by op given)
-    → entry_bytes r op [] old new ≡ entry_bytes r op given old new
-given_bytes Done op given old new same = same refl
-given_bytes r op given old new same = refl
+waits_same : (r : Reply) (e : Entry) (a : ArrayState) → r ≡ NotYet → after_reply r e a ≡ a
+waits_same r e a waits = ap (λ (x : Reply). after_reply x e a) waits
 
-given_entry : (r : Reply) (op : Op) (caller : ℕ) (given : List ℕ) (old new : BankState) (a : ArrayState) → (r ≡ Done → given_by op [] ≡ given_by op given)
-    → MakesEntry old new (entry_of old new caller op r []) a → MakesEntry old new (entry_of old new caller op r given) a
-given_entry r op caller given old new a same makes =
-    subst (λ (bytes : List ℕ). MakesEntry old new (record { caller = caller; op = op; reply = r; bytes = bytes }) a) (given_bytes r op given old new same) makes
+pub makes_range : (old new : BankState) (caller : ℕ) (op : Op) (r : Reply) (given told : List ℕ) → is_range op ≡ true → IsCallOf caller op old new r given
+    → (r ≡ Done → given_by op given ≡ given_by op told) → Reads old new (entry_of old new caller op r told) → MakesRange old new (entry_of old new caller op r told)
+makes_range old new caller op r given told range call same reads = record {
+  makes = λ given a stands. goes (is answers given) a stands;
+  rests = λ waits a stands. rests (still answers waits) a stands;
+  some = some answers;
+}
+  where
+    way : Way caller op old new r
+    way = way_of old new caller op r given range call
+
+    answers : IsAnswer r
+    answers = answer old new caller op r given range call way
+
+    e : Entry
+    e = entry_of old new caller op r told
+
+    used : UsesBus old.bus new.bus
+    used = uses op r old new call.spends
+
+    is : IsAnswer r → is_waited_out r ≡ false → is_plain r ≡ true
+    is (inl plain) given = plain
+    is (inr waits) given = absurd (false_true (sym given ∙ ap is_waited_out waits))
+
+    still : IsAnswer r → is_waited_out r ≡ true → r ≡ NotYet
+    still (inl plain) waits = absurd (plain_given r plain waits)
+    still (inr is) waits = is
+
+    some : IsAnswer r → r ≢ Nothing
+    some (inl plain) = plain_other r Nothing plain refl
+    some (inr waits) = λ nothing. not_nothing (sym waits ∙ nothing)
+
+    goes : is_plain r ≡ true → (a : ArrayState) → Stands old a → GoesOn old new e a
+    goes plain a stands =
+        let made : MakesEntry old new e a = given_entry r op caller given told old new a same (call.makes a stands).entry in
+        record {
+          admitted = made.admitted;
+          agrees = made.agrees;
+          stands = made.stands;
+          call = range_call op range;
+          closes = λ name opener. range_closes opener name op r range plain;
+          found = call.leaves.found;
+          lanes = call.leaves.lanes;
+          erases = λ c below. erases_stay caller op r old new given a (answer_opens r answers) way (call.makes a stands) c below ∙ sym (ap (risen _) (plain_opens r plain));
+          closed = range_closed old new caller op r given range call;
+          stays = range_stays old new caller op r given a range call stands;
+          failed = loses_failed r old.bus.failed new.bus.failed used.failed call.off;
+          reads = λ cut armed. reads a cut stands made.stands armed;
+        }
+
+    rests : r ≡ NotYet → (a : ArrayState) → Stands old a → Rests old new a
+    rests waits a stands =
+        let made : MakesCall caller op old new r given a = call.makes a stands in
+        let now : Stands new a = subst (Stands new) (waits_same r (entry_of old new caller op r given) a waits) made.entry.stands in
+        record {
+          stands = now;
+          found = call.leaves.found;
+          lanes = call.leaves.lanes;
+          erases = erases_stay caller op r old new given a (answer_opens r answers) way made;
+          closed = range_closed old new caller op r given range call;
+          stays = range_stays old new caller op r given a range call stands;
+          failed = used.failed;
+          reads = left_less a.power a.power old.bus.armed new.bus.armed (λ on. (on, used.armed (on_bus new a now on)));
+        }
 
 -- ---- a program
 
@@ -143,49 +140,41 @@ program_words : (w at : ℕ) (new : List ℕ) (r : Reply) → words_of w r (Prog
 program_words w at new Done = refl
 program_words w at new r = refl
 
-pub program_makes : (old new : BankState) (caller at : ℕ) (written given : List ℕ) (r : Reply) → IsCall caller (Program at written) old new r []
+pub program_makes : (old new : BankState) (caller at : ℕ) (written given : List ℕ) (r : Reply) → IsCallOf caller (Program at written) old new r []
     → MakesRange old new (entry_of old new caller (Program at written) r given)
 program_makes old new caller at written given r call =
-    let op = Program at written in
-    let answer = range_answer old new caller op r [] refl call in
-    makes_range old new (entry_of old new caller op r given) answer.plain
-    (λ a can.
-    let made = given_entry r op caller given old new a (λ done. refl) (call.makes a (can_make old a op refl can)) in
-    goes old new a caller op r [] (entry_bytes r op given old new) refl answer.plain can call made
-    (λ cut armed. words_none (word_bytes old.found) old new a (entry_of old new caller op r given) refl made.stands call.uses
-    (program_words (word_bytes old.found) at written r)))
+    makes_range old new caller (Program at written) r [] given refl call (λ done. refl)
+    (λ a cut stands there armed. words_none (word_bytes old.found) old new a (entry_of old new caller (Program at written) r given) refl there
+    (uses (Program at written) r old new call.spends) (program_words (word_bytes old.found) at written r))
 
 -- ---- a read
 
-read_reads : (w : ℕ) (old new : BankState) (a : ArrayState) (caller at len : ℕ) (r : Reply) (bytes : List ℕ) (cut : ArmedCut)
+read_reads : (w m : ℕ) (old new : BankState) (a : ArrayState) (caller at len : ℕ) (r : Reply) (bytes : List ℕ) (cut : ArmedCut)
     → Stands old a → a.armed ≡ Some cut → Stands new (after a (record { caller = caller; op = Read at len; reply = r; bytes = bytes })) → UsesBus old.bus new.bus
-    → (r ≡ Done → old.halted ≡ None) → (r ≡ Done → Went (words_met at len w) (words_met at len w) old.bus new.bus)
+    → (r ≡ Done → old.halted ≡ None) → (r ≡ Done → Went (words_met at len w) m old.bus new.bus)
     → words_of w r (Read at len) + cycles_left (after a (record { caller = caller; op = Read at len; reply = r; bytes = bytes })).power new.bus.armed ≤ cycles_left a.power old.bus.armed
-read_reads w old new a caller at len Done bytes cut stands armed there uses runs went = words_some (words_met at len w) old new a cut stands (runs refl) armed (went refl)
-read_reads w old new a caller at len r bytes cut stands armed there uses runs went =
+read_reads w m old new a caller at len Done bytes cut stands armed there uses runs went = words_some (words_met at len w) m old new a cut stands (runs refl) armed (went refl)
+read_reads w m old new a caller at len r bytes cut stands armed there uses runs went =
     words_none w old new a (record { caller = caller; op = Read at len; reply = r; bytes = bytes }) refl there uses refl
 
-pub read_makes : (old new : BankState) (caller at len : ℕ) (given : List ℕ) (r : Reply) → IsCall caller (Read at len) old new r given
-    → (old.erase ≡ None → r ≡ Done → Went (words_in old at len) (words_in old at len) old.bus new.bus)
+pub read_makes : (old new : BankState) (caller at len : ℕ) (given : List ℕ) (r : Reply) → IsCallOf caller (Read at len) old new r given
+    → (r ≡ Done → Went (words_in old at len) (60 + words_in old at len) old.bus new.bus)
     → MakesRange old new (entry_of old new caller (Read at len) r given)
-read_makes old new caller at len given r call exact =
+read_makes old new caller at len given r call went =
     let op = Read at len in
-    let answer = range_answer old new caller op r given refl call in
-    makes_range old new (entry_of old new caller op r given) answer.plain
-    (λ a can.
-    let made = call.makes a (can_make old a op refl can) in
-    goes old new a caller op r given (entry_bytes r op given old new) refl answer.plain can call made
-    (λ cut armed. read_reads (word_bytes old.found) old new a caller at len r (entry_bytes r op given old new) cut can.stands armed made.stands call.uses answer.runs (exact can.closed)))
+    makes_range old new caller op r given given refl call (λ done. refl)
+    (λ a cut stands there armed. read_reads (word_bytes old.found) (60 + words_in old at len) old new a caller at len r (entry_bytes r op given old new) cut stands armed there
+    (uses op r old new call.spends) (done_runs old new caller op r (way_of old new caller op r given refl call)) went)
 
 -- a read of too many bytes
 pub long_makes : (b : BankState) (caller at len : ℕ) (given : List ℕ) (o : Option Reply) (r : Reply) → o ≡ Some r → o ≡ range_refusal (size_of b.found) at len
-    → IfSome o (λ x. (k : ℕ) (bytes : List ℕ) → IsCall k (Read at len) b b x bytes)
+    → IfSome o (λ x. (k : ℕ) (bytes : List ℕ) → IsCallOf k (Read at len) b b x bytes)
     → MakesRange b b (entry_of b b caller (Read at len) r given)
 long_makes b caller at len given None r some is call = absurd (cc)
 long_makes b caller at len given (Some x) r some is call =
     let same : x ≡ r = cc in
     let none : r ≡ Done → ⊥ = not_done r (refusal_is b.found (Range at len) r (sym is ∙ some)) in
-    read_makes b b caller at len given r (subst (λ (y : Reply). IsCall caller (Read at len) b b y given) same (call caller given)) (λ closed done. absurd (none done))
+    read_makes b b caller at len given r (subst (λ (y : Reply). IsCallOf caller (Read at len) b b y given) same (call caller given)) (λ done. absurd (none done))
   where
     not_done : (r : Reply) → (r ≡ OutOfRange) ⊎ (r ≡ TooLong) → r ≡ Done → ⊥
     not_done r (inl is) done = (let both : OutOfRange ≡ Done = sym is ∙ done in cc)

@@ -12,21 +12,21 @@ use Rattle.nor_array.specs.declared.state.Power.{Power}
 use Rattle.nor_array.specs.declared.state.Power.TheVariants.{On, Off, Stuck}
 use Rattle.nor_bank.specs.Stands.{Stands, kept_power, PowerIs, CutIs}
 use Rattle.nor_bank.specs.State.{BankState}
-use Rattle.nor_bank.specs.Work.{UsesBus, NoFurther}
+use Rattle.nor_bank.proofs.Using.{UsesBus, NoFurther}
 use Rattle.nor_driver.specs.Fronts.{is_call, words_of, cycles_left}
 use Rattle.nor_driver.proofs.Afters.{power_not_on, was_on}
 
-on_runs : (kept : Option HaltCause) → kept_power kept ≡ On → kept ≡ None
+pub on_runs : (kept : Option HaltCause) → kept_power kept ≡ On → kept ≡ None
 on_runs None on = refl
 on_runs (Some cause) on = absurd (power_not_on cause on)
 
-on_bus : (b : BankState) (a : ArrayState) → Stands b a → a.power ≡ On → b.bus.power ≡ true
+pub on_bus : (b : BankState) (a : ArrayState) → Stands b a → a.power ≡ On → b.bus.power ≡ true
 on_bus b a stands on =
     let runs : b.halted ≡ None = on_runs b.halted (sym stands.power ∙ on) in
     let now : PowerIs None b a = subst (λ (k : Option HaltCause). PowerIs k b a) runs stands.now in
     now.power
 
-left_less : (p q : Power) (x y : Option Armed) → (q ≡ On → (p ≡ On) × NoFurther x y) → cycles_left q y ≤ cycles_left p x
+pub left_less : (p q : Power) (x y : Option Armed) → (q ≡ On → (p ≡ On) × NoFurther x y) → cycles_left q y ≤ cycles_left p x
 left_less p Off x y h = omega arith
 left_less p (Stuck k) x y h = omega arith
 left_less p On x y h = let both = h refl in subst (λ (r : Power). cycles_left On y ≤ cycles_left r x) (sym both.0) (by_cut x y both.1)
@@ -60,14 +60,14 @@ words_none w old new a e call stands uses none =
     omega (arith, none, less)
 
 -- so many words were read, of a bank with an armed cut
-pub words_some : (w : ℕ) (old new : BankState) (a : ArrayState) (cut : ArmedCut) → Stands old a → old.halted ≡ None → a.armed ≡ Some cut
-    → Went w w old.bus new.bus → w + cycles_left a.power new.bus.armed ≤ cycles_left a.power old.bus.armed
-words_some w old new a cut stands runs armed went =
+pub words_some : (w m : ℕ) (old new : BankState) (a : ArrayState) (cut : ArmedCut) → Stands old a → old.halted ≡ None → a.armed ≡ Some cut
+    → Went w m old.bus new.bus → w + cycles_left a.power new.bus.armed ≤ cycles_left a.power old.bus.armed
+words_some w m old new a cut stands runs armed went =
     let on : a.power ≡ On = stands.power ∙ ap kept_power runs in
     let now : PowerIs None old a = subst (λ (k : Option HaltCause). PowerIs k old a) runs stands.now in
     subst (λ (p : Power). w + cycles_left p new.bus.armed ≤ cycles_left p old.bus.armed) (sym on) (by_cut old.bus.armed new.bus.armed a.armed now.cut armed went.armed)
   where
-    by_cut : (x y : Option Armed) (z : Option ArmedCut) → CutIs old.after x z → z ≡ Some cut → Nearer w w x y → w + cycles_left On y ≤ cycles_left On x
+    by_cut : (x y : Option Armed) (z : Option ArmedCut) → CutIs old.after x z → z ≡ Some cut → Nearer w m x y → w + cycles_left On y ≤ cycles_left On x
     by_cut None y None is e near = absurd (cc)
     by_cut None y (Some z) is e near = absurd is
     by_cut (Some x) None z is e near = absurd near

@@ -14,10 +14,10 @@ use Rattle.nor_array.proofs.Histories.{after_last, legal_more}
 use Rattle.nor_bank.specs.Calls.{facts_of}
 use Rattle.nor_bank.specs.State.{BankState, word_bytes}
 use Rattle.nor_turn.specs.Fronts.{Name, Front}
-use Rattle.nor_bank.specs.Work.{CanCall}
+use Rattle.nor_bank.specs.Stands.{Stands}
 use Rattle.nor_bank.proofs.Keeping.{keeps_self}
+use Rattle.nor_bank.proofs.Keeping.{stays_self, stays_on}
 use Rattle.nor_bank.proofs.Lasting.{facts_last}
-use Rattle.nor_bank.proofs.Standing.{lasts_on, lasts_self}
 use Rattle.nor_driver.specs.Fronts.{StandsFrom, StandsFor, entries_of, is_call, opens, loses, words_of, opened, lost, words_read, risen, opener_after, ClosesOwn, AllCloseOwn, cycles_left}
 use Rattle.nor_driver.specs.Made.{GoesOn, Rests}
 use Rattle.nor_driver.proofs.Afters.{same_armed}
@@ -64,17 +64,18 @@ same_facts old new found lanes = facts_last old new found lanes.count (λ c belo
 pub stands_first : (b : BankState) → StandsFor b [] b
 stands_first b = record {
   keeps = keeps_self b;
-  each = λ a can. record {
-    can = can;
+  each = λ a stands. record {
+    stands = stands;
     legal = tt;
     calls = search rules;
     closes = tt;
     found = refl;
     lanes = record { count = refl; each = λ c below. record { part = refl; size = refl; locks = refl; bytes = λ small. small } };
-    lasts = lasts_self b a can.stands;
     erases = λ c below. refl;
+    closed = λ none. none;
+    stays = λ none c below. stays_self _;
     failed = omega arith;
-    reads = λ cut armed. let left = left_within b a cut can.stands armed in omega (arith, left);
+    reads = λ cut armed. let left = left_within b a cut stands armed in omega (arith, left);
   };
 }
 
@@ -88,18 +89,19 @@ stands_more first now next a front name e so goes =
     let then : after_all a (entries_of (front ++ (name, e) ∷ [])) ≡ after (after_all a es) e = ap (after_all a) whole ∙ after_last a es e in
     let agrees : Agrees (facts_of first) (after_all a es) e = subst (λ (f : Facts). Agrees f (after_all a es) e) (same_facts first now so.found so.lanes) goes.agrees in
     record {
-      can = subst (CanCall next) (sym then) goes.can;
+      stands = subst (Stands next) (sym then) goes.stands;
       legal = subst (Legal (facts_of first) a) (sym whole) (legal_more (facts_of first) a es e so.legal goes.admitted agrees);
       calls = subst (All (λ (x : Entry). is_call x.op ≡ true)) (sym whole) (all_last (λ (x : Entry). is_call x.op ≡ true) es e so.calls goes.call);
       closes = closes_last None front name e so.closes (λ o. goes.closes name o);
       found = goes.found ∙ so.found;
       lanes = keeps_then first.bus now.bus next.bus so.lanes goes.lanes;
-      lasts = lasts_on first.bus now.bus next.bus so.lanes.count so.lasts goes.lasts;
       erases = λ c below.
           let there : c < lanes_of now.bus = subst (λ (n : ℕ). c < n) (sym so.lanes.count) below in
           let mid = so.erases c below in
           let last = goes.erases c there in
           last ∙ (ap (λ (n : ℕ). risen n (opens e.reply)) mid ∙ (risen_add _ (opened es) (opens e.reply) ∙ ap (risen _) (sym (ap opened whole ∙ opened_last es e))));
+      closed = λ none. goes.closed (so.closed none);
+      stays = λ none. stays_on first.bus now.bus next.bus so.lanes.count (so.stays none) (goes.stays (so.closed none));
       failed = failed_more (lost (entries_of (front ++ (name, e) ∷ []))) (lost es) (loses e.reply) first.bus.failed now.bus.failed next.bus.failed (ap lost whole ∙ lost_last es e) so.failed goes.failed;
       reads = λ cut is.
           let before : (after_all a es).armed ≡ Some cut = sym (ap (λ (x : ArrayState). x.armed) then ∙ same_armed (after_all a es) e goes.call) ∙ is in
@@ -123,14 +125,15 @@ stands_more first now next a front name e so goes =
 pub stands_still : (first now next : BankState) (a : ArrayState) (front : Front Entry)
     → StandsFrom first a front now → Rests now next (after_all a (entries_of front)) → StandsFrom first a front next
 stands_still first now next a front so rests = record {
-  can = rests.can;
+  stands = rests.stands;
   legal = so.legal;
   calls = so.calls;
   closes = so.closes;
   found = rests.found ∙ so.found;
   lanes = keeps_then first.bus now.bus next.bus so.lanes rests.lanes;
-  lasts = lasts_on first.bus now.bus next.bus so.lanes.count so.lasts rests.lasts;
   erases = λ c below. rests.erases c (subst (λ (n : ℕ). c < n) (sym so.lanes.count) below) ∙ so.erases c below;
+  closed = λ none. rests.closed (so.closed none);
+  stays = λ none. stays_on first.bus now.bus next.bus so.lanes.count (so.stays none) (rests.stays (so.closed none));
   failed = no_fewer (lost (entries_of front)) first.bus.failed now.bus.failed next.bus.failed so.failed rests.failed;
   reads = λ cut is. let before = so.reads cut is in let left = rests.reads in omega (arith, before, left);
 }

@@ -8,23 +8,13 @@ use Rattle.nor_array.specs.declared.entry.Reply.{Reply}
 use Rattle.nor_array.specs.declared.entry.Reply.TheVariants.{Done, Opened, OutOfRange, TooLong, Busy, Occupied, Locked, Nothing, NotYet, Failed, Halted}
 use Rattle.nor_bank.specs.Calls.{entry_bytes}
 use Rattle.nor_bank.specs.State.{BankState}
+use Rattle.nor_bank.proofs.RangeCalls.{is_plain}
 use Rattle.nor_driver.specs.Callers.{Gives}
 use Rattle.nor_driver.specs.Fronts.{opens, loses}
 use Rattle.nor_driver.specs.Made.{is_waited_out}
 
 pub false_true : false ≡ true → ⊥
 false_true is = cc
-
--- none that opens or ends an erase, or waits for one
-abbrev pub is_plain : Reply → Bool
-is_plain Done = true
-is_plain OutOfRange = true
-is_plain TooLong = true
-is_plain (Busy b) = true
-is_plain (Locked b) = true
-is_plain (Failed from to lanes) = true
-is_plain (Halted cause) = true
-is_plain _ = false
 
 -- a plain reply isn't one that isn't
 pub plain_other : (r s : Reply) → is_plain r ≡ true → is_plain s ≡ false → r ≢ s
@@ -38,6 +28,9 @@ plain_given r plain waits = false_true waits
 pub plain_opens : (r : Reply) → is_plain r ≡ true → opens r ≡ 0
 plain_opens Opened plain = absurd (false_true plain)
 plain_opens r plain = refl
+
+pub not_nothing : NotYet ≡ Nothing → ⊥
+not_nothing is = cc
 
 -- what isn't waited out is awaited
 pub given_awaited : (r : Reply) → is_waited_out r ≡ false → r ≢ Nothing → IsAwaited r

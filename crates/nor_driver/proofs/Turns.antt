@@ -10,7 +10,8 @@ use Rattle.nor_bank.specs.Calls.{entry_of}
 use Rattle.nor_bank.specs.State.{BankState}
 use Rattle.nor_turn.specs.Fronts.{Name, Front}
 use Rattle.nor_turn.specs.Passes.{PassView, Continues, after_entry, without_turn, front_after}
-use Rattle.nor_bank.specs.Work.{CanCall, KeepsBank}
+use Rattle.nor_bank.specs.Stands.{Stands}
+use Rattle.nor_bank.specs.Work.{KeepsBank}
 use Rattle.nor_driver.specs.Fronts.{StandsFor, entries_of}
 use Rattle.nor_array.specs.Legal.{Legal}
 use Rattle.nor_bank.specs.Calls.{facts_of}
@@ -22,27 +23,27 @@ use Rattle.nor_driver.proofs.Replies.{given_awaited, tells_data}
 
 -- the bank goes on by a call, and so does the front
 goes_on : (first old new : BankState) (front : Front Entry) (name : Name) (e : Entry) → StandsFor first front old
-    → KeepsBank old new → ((a : ArrayState) → CanCall old a → GoesOn old new e a) → StandsFor first (front ++ (name, e) ∷ []) new
+    → KeepsBank old new → ((a : ArrayState) → Stands old a → GoesOn old new e a) → StandsFor first (front ++ (name, e) ∷ []) new
 goes_on first old new front name e stands keeps makes = record {
   keeps = keeps_bank_then first old new stands.keeps keeps;
   each = λ a can.
       let so = stands.each a can in
-      stands_more first old new a front name e so (makes (after_all a (entries_of front)) so.can);
+      stands_more first old new a front name e so (makes (after_all a (entries_of front)) so.stands);
 }
 
 -- a call that is waited out leaves a bank that stands for the same front
 pub stands_waiting : (first mine old held next : BankState) (front : Front Entry) (r : Reply) → mine ≡ first → held ≡ old → StandsFor first front old
-    → is_waited_out r ≡ true → KeepsBank held next → (is_waited_out r ≡ true → (a : ArrayState) → CanCall held a → Rests held next a) → StandsFor mine front next
+    → is_waited_out r ≡ true → KeepsBank held next → (is_waited_out r ≡ true → (a : ArrayState) → Stands held a → Rests held next a) → StandsFor mine front next
 stands_waiting first mine old held next front r mine_is held_is stands waits keeps rests =
     let before : StandsFor first front held = subst (StandsFor first front) (sym held_is) stands in
     let still : StandsFor first front next =
-    record { keeps = keeps_bank_then first held next before.keeps keeps; each = λ a can. let so = before.each a can in stands_still first held next a front so (rests waits (after_all a (entries_of front)) so.can) } in
+    record { keeps = keeps_bank_then first held next before.keeps keeps; each = λ a can. let so = before.each a can in stands_still first held next a front so (rests waits (after_all a (entries_of front)) so.stands) } in
     subst (λ (f : BankState). StandsFor f front next) (sym mine_is) still
 
 -- one that isn't makes an entry, here with the names that the driver has for these
 pub stands_entered : (first mine old held new before later : BankState) (front : Front Entry) (name : Name) (caller len filled : ℕ) (op : ℕ → Op) (r : Reply) (given : List ℕ)
     → mine ≡ first → held ≡ old → before ≡ held → later ≡ new → filled ≡ len → StandsFor first front old → is_waited_out r ≡ false → KeepsBank held new
-    → (is_waited_out r ≡ false → (a : ArrayState) → CanCall held a → GoesOn held new (entry_of held new caller (op len) r given) a)
+    → (is_waited_out r ≡ false → (a : ArrayState) → Stands held a → GoesOn held new (entry_of held new caller (op len) r given) a)
     → StandsFor mine (front ++ (name, entry_of before later caller (op filled) r given) ∷ []) new
 stands_entered first mine old held new before later front name caller len filled op r given mine_is held_is before_is later_is filled_is stands waits keeps makes =
     let base : StandsFor first (front ++ (name, entry_of held new caller (op len) r given) ∷ []) new =

@@ -11,7 +11,7 @@ use Rattle.nor_bank.specs.State.{BankState}
 use Rattle.nor_turn.specs.Fronts.{Name, Front}
 use Rattle.nor_turn.specs.Passes.{LockView, PassView, IsPassOf, Owns, Continues, first_pass, kept_half, split_half, both}
 use Rattle.nor_array.specs.Entries.{IsOf, IsAwaited}
-use Rattle.nor_bank.specs.Work.{CanCall}
+use Rattle.nor_bank.specs.Stands.{Stands}
 use Rattle.nor_driver.specs.Fronts.{entries_of}
 use Rattle.nor_driver.specs.declared.caller.Answer.{Answer}
 
@@ -80,7 +80,7 @@ pub record WentOn (made : ℕ) (p q : PassView BankState Entry) : Type 0 where
 
 -- The entries of a front are legal for every array that the driver's first bank stood for.
 abbrev pub IsLegal : BankState → Front Entry → Type 0
-IsLegal first front = (a : ArrayState) → CanCall first a → Legal (facts_of first) a (entries_of front)
+IsLegal first front = (a : ArrayState) → Stands first a → Legal (facts_of first) a (entries_of front)
 
 -- the bytes of an entry are what a read that was done has given
 abbrev pub Gives : Reply → Op → (given bytes : List ℕ) → Type 0

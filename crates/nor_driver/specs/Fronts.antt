@@ -18,10 +18,10 @@ use Rattle.nor_array.specs.declared.state.ArmedCut.{ArmedCut}
 use Rattle.nor_array.specs.declared.state.Power.{Power}
 use Rattle.nor_array.specs.declared.state.Power.TheVariants.{On, Off, Stuck}
 use Rattle.nor_bank.specs.Calls.{facts_of}
-use Rattle.nor_bank.specs.Programs.{Lasts}
 use Rattle.nor_bank.specs.Ranges.{words_met}
+use Rattle.nor_bank.specs.Stands.{Stands}
 use Rattle.nor_bank.specs.State.{BankState, word_bytes}
-use Rattle.nor_bank.specs.Work.{CanCall, KeepsBank}
+use Rattle.nor_bank.specs.Work.{KeepsBank, StaysFiled}
 use Rattle.nor_turn.specs.Fronts.{Name, Front}
 
 -- ---- what is told of entries
@@ -113,21 +113,23 @@ cycles_left (Stuck lane) armed = 0
 -- counted. A cycle failed for each loss of power that was told. While a cut is armed, the words that were read and the
 -- cycles that are left of it are no more than it was armed with.
 pub record StandsFrom (first : BankState) (a : ArrayState) (front : Front Entry) (now : BankState) : Type 0 where
-  pub can : CanCall now (after_all a (entries_of front))
+  pub stands : Stands now (after_all a (entries_of front))
   pub legal : Legal (facts_of first) a (entries_of front)
   pub calls : All (λ e. is_call e.op ≡ true) (entries_of front)
   pub closes : AllCloseOwn None front
   pub found : now.found ≡ first.found
   pub lanes : KeepsLanes first.bus now.bus
-  -- Today no call changes more of a chip than its bytes. This goes when erases and locks come; `lanes` and `erases` stay.
-  pub lasts : EachLane Lasts first.bus now.bus
   pub erases : EachLane (λ s t. t.erases ≡ risen s.erases (opened (entries_of front))) first.bus now.bus
+  -- Today no call changes more of a file than its bytes. This goes when erases and locks come; `lanes` and `erases` stay.
+  pub closed : first.erase ≡ None → now.erase ≡ None
+  pub stays : first.erase ≡ None → EachLane StaysFiled first.bus now.bus
   pub failed : more (lost (entries_of front)) first.bus.failed ≤ now.bus.failed
   pub reads : (cut : ArmedCut) → (after_all a (entries_of front)).armed ≡ Some cut
-      → words_read (word_bytes first.found) (entries_of front) + cycles_left (after_all a (entries_of front)).power now.bus.armed ≤ cut.after
+      → words_read (word_bytes first.found) (entries_of front)
+      + cycles_left (after_all a (entries_of front)).power now.bus.armed ≤ cut.after
 
--- A bank stands for a front of what was made of the first one. Of a first bank that stood for no array it says only what no call
--- changes.
+-- A bank stands for a front of what was made of the first one. Of a first bank that stood for no array it says only
+-- what no call changes.
 pub record StandsFor (first : BankState) (front : Front Entry) (now : BankState) : Type 0 where
   pub keeps : KeepsBank first now
-  pub each : (a : ArrayState) → CanCall first a → StandsFrom first a front now
+  pub each : (a : ArrayState) → Stands first a → StandsFrom first a front now

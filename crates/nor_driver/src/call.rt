@@ -4,7 +4,8 @@ ghost use Rattle.nor_array.specs.Array.{ArrayState};
 ghost use Rattle.nor_array.specs.declared.entry.Op.{Op};
 ghost use Rattle.nor_array.specs.declared.entry.Reply.TheVariants.{Nothing};
 ghost use Rattle.nor_bank.specs.Calls.{entry_of};
-ghost use Rattle.nor_bank.specs.Work.{CanCall, KeepsBank};
+ghost use Rattle.nor_bank.specs.Stands.{Stands};
+ghost use Rattle.nor_bank.specs.Work.{KeepsBank};
 ghost use Rattle.nor_driver.specs.Made.{GoesOn, Rests, is_waited_out};
 
 use crate::held::Held;
@@ -30,10 +31,10 @@ pub(crate) trait Call<W: BusWord, B: Bus<W>> {
     /// Makes the call. Where its reply is waited out, the bank is left as it stands. It is never answered
     /// that there is nothing to poll.
     fn make(&self, bank: &mut Bank<W, B>, caller: u8, into: &mut [u8]) -> Reply
-        ensures makes { is_waited_out result ≡ false → (a : ArrayState) → CanCall bank.old a
+        ensures makes { is_waited_out result ≡ false → (a : ArrayState) → Stands bank.old a
             → GoesOn bank.old bank.new
             (entry_of bank.old bank.new caller (op self.now (length into.old)) result into.new) a }
-        ensures rests { is_waited_out result ≡ true → (a : ArrayState) → CanCall bank.old a
+        ensures rests { is_waited_out result ≡ true → (a : ArrayState) → Stands bank.old a
             → Rests bank.old bank.new a }
         ensures some { result ≢ Nothing }
         ensures keeps { KeepsBank bank.old bank.new }

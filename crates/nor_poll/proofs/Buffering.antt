@@ -1,5 +1,5 @@
 -- A program of a buffer load, from its begin to its end, by the calls of either set.
-use Rattle.std.proofs.Common.{◌≡◌, ◌+◌, ◌-◌, ◌*◌, ◌<◌, ◌≤◌, ◌%◌, ◌^◌, ◌==◌, ℕ, zero, suc, refl, sym, subst, ap, ◌∙◌, arith, Bool, true, false, if◌then◌else◌, List, [], ◌∷◌, ◌++◌, length, get_or, slice_index, min}
+use Rattle.std.proofs.Common.{inl, inr, ◌≡◌, ◌+◌, ◌-◌, ◌*◌, ◌<◌, ◌≤◌, ◌%◌, ◌^◌, ◌==◌, ℕ, zero, suc, refl, sym, subst, ap, ◌∙◌, arith, Bool, true, false, if◌then◌else◌, List, [], ◌∷◌, ◌++◌, length, get_or, slice_index, min}
 use Rattle.std.proofs.lemmas.List.{get_or_append_left, get_or-append-add}
 use Rattle.std.proofs.Math.Nat.{mod-eq_of_lt}
 use Rattle.nor_cell.specs.Bits.{has_bit, unit_len, unit_bytes}
@@ -18,13 +18,14 @@ use Rattle.nor_bus.specs.Driven.{Went, AllLanes}
 use Rattle.nor_bus.proofs.Driving.{went_then, lost_then, own_kept, there_kept, lane_kept}
 use Rattle.nor_poll.specs.Losing.{LosesNone}
 use Rattle.nor_poll.specs.Polled.{Answers, working_reads, polling_for}
-use Rattle.nor_poll.specs.Reads.{AfterReads, WorksAfter, DarkAfter}
+use Rattle.nor_poll.specs.Reads.{AfterReads, WorksAfter, DarkAfter, EachSent}
 use Rattle.nor_poll.specs.Rest.{SettlesUnbroken}
 use Rattle.nor_poll.specs.Toggles.{ShowsToggle, ShowsDatum, EndsWith, IsProgramFault, names_job}
 use Rattle.nor_poll.proofs.Waiting.{IsEnded}
 use Rattle.nor_poll.specs.Wait.{WorksFor, WaitHalts, wait_most, wait_prompt}
-use Rattle.nor_poll.specs.Word.{is_broken, programming}
-use Rattle.nor_poll.specs.Buffer.{EachLoad, ReachesAll, TakesLoad, BeginsLoad, ProgramsLoad, TellsLoadBroken, LosesLoad, TearsLoad, IsStuckByLoad, LoadEndsWithin, LoadHalts, load_of, load_reads, load_begin, load_most, load_prompt, load_stuck, last_of}
+use Rattle.nor_poll.specs.Word.{is_broken, programming, program_reads, working_at_each}
+use Rattle.nor_poll.proofs.Reading.{dark_sent, read_sent}
+use Rattle.nor_poll.specs.Buffer.{EachLoad, ReachesAll, TakesLoad, BeginsLoad, ProgramsLoad, TellsLoadBroken, LosesLoad, TearsLoad, IsStuckByLoad, LoadEndsWithin, LoadHalts, load_of, load_reads, load_begin, load_most, load_prompt, load_stuck, load_sent, last_of}
 use Rattle.nor_poll.specs.Codes.{cycles_of}
 use Rattle.nor_poll.specs.declared.codes.Command.TheVariants.{ClearErrors, ShowArray}
 use Rattle.nor_poll.specs.declared.lanes.Halt.{Halt}
@@ -189,18 +190,20 @@ polled width g u n a old mid is kept few reaches =
 -- ---- how many cycles there are
 
 -- with so many polls, to the last of them, and where no lane works for long
-pub record LoadFits (set : Set) (n limit most reads : ℕ) : Type 0 where
+pub record LoadFits (set : Set) (n limit most stuck : ℕ) : Type 0 where
   pub begun : load_begin set n + most + length (cycles_of set ClearErrors) ≤ load_most set n limit
   pub shown : (bits : ℕ) → load_begin set n + most + (length (cycles_of set ShowArray) + min bits 1) ≤ load_most set n limit
   pub least : (bits : ℕ) → n + 6 ≤ load_begin set n + 1 + (length (cycles_of set ShowArray) + min bits 1)
-  pub stuck_at : load_begin set n + reads ≡ load_stuck set n limit
+  pub stuck_at : load_begin set n + stuck ≡ load_stuck set n limit
+  pub reads : most ≤ program_reads set limit
+  pub works : stuck ≡ working_at_each set limit
 
 fits_amd : {W : Type 0} (new : W) (one : Bool) (n limit : ℕ) → LoadFits Amd n limit (wait_most (if one then Data new else Toggle) limit) (working_reads (if one then Data new else Toggle) * limit)
-fits_amd new true n limit = record { begun = omega arith; shown = λ bits. omega arith; least = λ bits. omega arith; stuck_at = omega arith }
-fits_amd new false n limit = record { begun = omega arith; shown = λ bits. omega arith; least = λ bits. omega arith; stuck_at = omega arith }
+fits_amd new true n limit = record { begun = omega arith; shown = λ bits. omega arith; least = λ bits. omega arith; stuck_at = omega arith; reads = omega arith; works = omega arith }
+fits_amd new false n limit = record { begun = omega arith; shown = λ bits. omega arith; least = λ bits. omega arith; stuck_at = omega arith; reads = omega arith; works = omega arith }
 
 fits_own : {W : Type 0} (set : Set) (g : Geometry) (new : W) (n limit : ℕ) → LoadFits set n limit (wait_most (polling_for set g new) limit) (working_reads (polling_for set g new) * limit)
-fits_own Intel g new n limit = record { begun = omega arith; shown = λ bits. omega arith; least = λ bits. omega arith; stuck_at = omega arith }
+fits_own Intel g new n limit = record { begun = omega arith; shown = λ bits. omega arith; least = λ bits. omega arith; stuck_at = omega arith; reads = omega arith; works = omega arith }
 fits_own Amd g new n limit = fits_amd new (g.lanes == 1) n limit
 
 pub load_fits : {W : Type 0} (set : Set) (g : Geometry) (new : W) (how : Polling W) (n limit : ℕ) → how ≡ polling_for set g new → LoadFits set n limit (wait_most how limit) (working_reads how * limit)
@@ -234,23 +237,26 @@ stuck_load : (kind : Set) (u n polls limit : ℕ) (bytes : List ℕ) (s b : Chip
 stuck_load kind u n polls limit bytes s b begins enough working takes few =
     stuck_begun kind (place s.part u) bytes (load_reads s) polls limit s b (begun kind u n bytes s b takes begins) enough (working takes (omega (arith, few))) few
 
-pub load_halts : {W : Type 0} (bytes_of : W → List ℕ) (how : Polling W) (kind : Set) (width u a limit first : ℕ) (g : Geometry) (words : List (List ℕ)) (old mid after : BusState) (halt : Halt)
-    → first + wait_most how limit ≤ load_most kind (length words) limit → first + working_reads how * limit ≡ load_stuck kind (length words) limit → Went first first old mid
+pub load_halts : {W : Type 0} (bytes_of : W → List ℕ) (how : Polling W) (kind : Set) (width u a limit : ℕ) (g : Geometry) (words : List (List ℕ)) (old mid after : BusState) (halt : Halt)
+    → load_begin kind (length words) + wait_most how limit ≤ load_most kind (length words) limit → load_begin kind (length words) + working_reads how * limit ≡ load_stuck kind (length words) limit
+    → Went (load_begin kind (length words)) (load_begin kind (length words)) old mid
     → (ReachesAll width g u (length words) old → EachLoad words (BeginsLoad kind u (length words)) old mid)
     → (ReachesAll width g u (length words) old → (a ≡ last_of u (length words)) × (a < units_of mid))
     → (ReachesAll width g u (length words) old → (c : ℕ) → c < lanes_of old → TakesLoad kind u (length words) (lane old c) → Answers bytes_of how a c (lane mid c))
-    → WaitHalts width bytes_of g how a limit mid after halt → LoadHalts kind width g u words limit old after halt
-load_halts bytes_of how kind width u a limit first g words old mid after Off fits same went begins at answers h = (
-  lost_then first first (wait_most how limit) (load_most kind (length words) limit) old mid after fits went h.0,
+    → (ReachesAll width g u (length words) old → EachSent (load_sent kind u (length words) words) old mid) → wait_most how limit ≤ program_reads kind limit
+    → working_reads how * limit ≡ working_at_each kind limit → WaitHalts width bytes_of g how a limit mid after halt → LoadHalts kind width g u words limit old after halt
+load_halts bytes_of how kind width u a limit g words old mid after Off fits same went begins at answers sent most works h = (
+  lost_then (load_begin kind (length words)) (wait_most how limit) (load_most kind (length words) limit) old mid after fits went h.lost,
   λ reaches k below.
-      dark_load kind u (length words) h.1.reads (load_of (lane old k).part.device k words) (lane old k) (lane mid k) (lane after k) (begins reaches k below) (h.1.each k (lane_kept old mid k went.kept below)),
+      dark_load kind u (length words) h.lost.cycles (load_of (lane old k).part.device k words) (lane old k) (lane mid k) (lane after k) (begins reaches k below) (h.each k (lane_kept old mid k went.kept below)),
+  λ reaches. inr (inl (dark_sent (load_sent kind u (length words) words) (load_begin kind (length words)) (wait_most how limit) (program_reads kind limit) old mid after most went (sent reaches) h)),
 )
-load_halts bytes_of how kind width u a limit first g words old mid after (Stuck k) fits same went begins at answers h =
+load_halts bytes_of how kind width u a limit g words old mid after (Stuck k) fits same went begins at answers sent most works h =
     let n = length words in
     let polls = working_reads how * limit in
     let reads = h.1 in (
       h.0,
-      went_then first first polls polls (load_stuck kind n limit) (load_stuck kind n limit) old mid after (omega (arith, same)) (omega (arith, same)) went (went_by polls mid after reads),
+      went_then (load_begin kind n) (load_begin kind n) polls polls (load_stuck kind n limit) (load_stuck kind n limit) old mid after (omega (arith, same)) (omega (arith, same)) went (went_by polls mid after reads),
       λ reaches c below.
           tears_load kind u n reads.reads (load_of (lane old c).part.device c words) (lane old c) (lane mid c) (lane after c) (begins reaches c below)
           (reads.each c (lane_kept old mid c went.kept below)),
@@ -258,4 +264,5 @@ load_halts bytes_of how kind width u a limit first g words old mid after (Stuck 
           let below = subst (λ (m : ℕ). k < m) (sym reaches.own.count) h.0 in
           stuck_load kind u n (polls - working_reads how) limit (load_of (lane old k).part.device k words) (lane old k) (lane mid k) (begins reaches k below) (enough_polls how limit)
           (λ takes some. h.2 (own_kept width g old mid went.kept reaches.own) (at reaches).1 some (answers reaches k below takes)),
+      λ reaches. read_sent (load_sent kind u n words) polls (working_at_each kind limit) old mid after works went.kept (sent reaches) reads,
     )

@@ -22,7 +22,7 @@ use Rattle.nor_cell.proofs.Between.{same_flags, same_fault}
 use Rattle.nor_poll.proofs.Between.{neither, right_false}
 use Rattle.nor_poll.proofs.Losing.{remains_then}
 use Rattle.nor_poll.proofs.Looking.{works, stays, ends_erase, ends_erase_cells}
-use Rattle.nor_poll.proofs.Programming.{toggling}
+use Rattle.nor_poll.proofs.Programming.{toggling, looks}
 
 -- ---- reads of a chip that runs nothing
 
@@ -67,9 +67,6 @@ pub record HasErased (target : Target) (reads n : ℕ) (s t : ChipState) : Type 
 
 abbrev pub Erases : Target → ℕ → ℕ → ChipState → ChipState → Type 0
 Erases target reads n s t = StillErases target reads n s t ⊎ HasErased target reads n s t
-
-looks : (m : ChipState) (stuck : Bool) (job : Job) → m.part.stuck ≡ stuck → m.job ≡ job → look m ≡ look_at stuck job
-looks m stuck job is e = ap (look_at m.part.stuck) e ∙ ap (λ (b : Bool). look_at b job) is
 
 goes_on : (target : Target) (k left : ℕ) (s m t : ChipState) → m ≡ toggling m.toggle_6 m.toggle_2 (record s { job = Erase target k }) → look m ≡ Works (Erase target left) → IsLooked m t
     → t ≡ toggling t.toggle_6 t.toggle_2 (record s { job = Erase target left })

@@ -1,8 +1,6 @@
 -- What a buffer load makes of a chip.
 use Rattle.std.proofs.Common.{◌≡◌, ◌<◌, ◌≤◌, ◌+◌, ◌-◌, ◌*◌, ◌/◌, ◌%◌, ◌==◌, ◌&&◌, inl, inr, ℕ, zero, suc, refl, sym, ap, subst, ◌∙◌, arith, Bool, true, false, not, nat_lt, List, [], ◌∷◌, ◌++◌, length, length-append, append-nil, append_assoc, if◌then◌else◌}
 use Rattle.std.proofs.lemmas.Bool.Decides.{nat_tests}
-use Rattle.std.proofs.lemmas.Nat.{le-div}
-use Rattle.std.proofs.Math.Nat.{div-mul-le_self}
 use Rattle.nor_cell.specs.Bits.{unit_len, unit_bytes}
 use Rattle.nor_cell.specs.Chip.{ChipState, Mode, Array, Status, Idle, Step, BufferCount, BufferData, BufferConfirm, Unlock1, Unlock2, Flags, block_of, is_locked, place}
 use Rattle.nor_cell.specs.Intel.{misled, flagged, begin_program}
@@ -16,18 +14,19 @@ use Rattle.nor_cell.specs.declared.device.Device.TheVariants.{X8, X16, X16Byte}
 use Rattle.nor_cell.specs.declared.device.Set.{Set}
 use Rattle.nor_cell.specs.declared.device.Set.TheVariants.{Intel, Amd}
 use Rattle.nor_cell.specs.declared.device.Work.TheVariants.{Buffer}
-use Rattle.nor_cell.proofs.Logic.{same_self, passes_below, some_bytes}
+use Rattle.nor_cell.proofs.Logic.{same_self, passes_below, some_bytes, not_none, quotient_rises}
 use Rattle.nor_cell.proofs.Loading.{takes_later, first_stays, length-unit_bytes}
 use Rattle.nor_cell.proofs.Spans.{block_rises}
 use Rattle.nor_word.specs.Word.{lane_of}
-use Rattle.nor_bus.specs.Bus.{wide}
+use Rattle.nor_bus.specs.Bus.{BusState, lane, wide}
 use Rattle.nor_bus.specs.Driven.{spread, Darkens}
 use Rattle.nor_bus.proofs.Driving.{spread_low}
 use Rattle.nor_poll.specs.Codes.{after_cycles, cycles_of, DarkensIn}
 use Rattle.nor_poll.specs.Losing.{Loses}
+use Rattle.nor_poll.specs.Reads.{EachSent}
 use Rattle.nor_poll.specs.Rest.{cleared_flags}
 use Rattle.nor_poll.specs.Word.{programming, work_mode}
-use Rattle.nor_poll.specs.Buffer.{TakesLoad, BeginsLoad, LosesLoad, load_of, load_reads, last_of, after_words, DarkensInWords}
+use Rattle.nor_poll.specs.Buffer.{EachLoad, TakesLoad, BeginsLoad, LosesLoad, DarkensLoading, load_of, load_reads, last_of, after_words, load_opened, load_filled, load_sent, DarkensInWords}
 use Rattle.nor_poll.specs.declared.codes.To.TheVariants.{Here}
 use Rattle.nor_poll.specs.declared.codes.Command.TheVariants.{LoadBuffer, ConfirmLoad}
 use Rattle.nor_poll.proofs.Between.{neither}
@@ -107,9 +106,6 @@ counts Amd s b n u v takes few is =
 equal_passes : (a b : ℕ) → a ≡ b → (a == b) ≡ true
 equal_passes a b h = grind (arith, nat_tests)
 
-not_none : (n : ℕ) → 0 < n → (n == 0) ≡ false
-not_none n h = grind (arith, nat_tests)
-
 next_place : (device : Device) (v : ℕ) → unit_len device * (v + 1) ≡ unit_len device * v + unit_len device
 next_place X8 v = omega arith
 next_place X16 v = omega arith
@@ -144,9 +140,6 @@ fills_rest kind c u v bytes s (word ∷ words) takes some at all =
     (record { block = λ w low high. all.block w (omega (arith, low)) (omega (arith, high)); page = λ w low high. all.page w (omega (arith, low)) (omega (arith, high)) }) in
     Fill (turned_loading kind (BufferData b (suc (length words)) u bytes) s) one
     (subst (λ (l : List ℕ). Fills c s (v + 1) words (loading kind (next_step b (length words) u (bytes ++ unit)) s) (loading kind (BufferConfirm u l) s)) (append_assoc bytes unit (load_of d c words)) rest)
-
-quotient_rises : (a b r : ℕ) → 0 < r → a ≤ b → a / r ≤ b / r
-quotient_rises a b r some le = let low = div-mul-le_self a r in le-div (a / r) b r some (omega (arith, low, le))
 
 place_rises : (device : Device) (a b : ℕ) → a ≤ b → unit_len device * a ≤ unit_len device * b
 place_rises X8 a b le = omega arith
@@ -238,63 +231,62 @@ confirms Amd u n bytes s takes =
 
 -- ---- the whole load
 
--- the chip after each part of the call
-pub record LoadsAt (kind : Set) (c u n : ℕ) (words : List (List ℕ)) (s opened counted filled : ChipState) : Type 0 where
-  pub count : n ≡ length words
-  pub few : n ≤ 256
-  pub first : opened ≡ after_cycles u (cycles_of kind LoadBuffer) s
-  pub second : counted ≡ written opened u (spread (wide opened) (n - 1))
-  pub third : filled ≡ after_words c u words counted
+opened_is : (kind : Set) (u n : ℕ) (s : ChipState) → TakesLoad kind u n s → after_cycles u (cycles_of kind LoadBuffer) s ≡ loading kind (BufferCount (block_of s u)) s
+opened_is kind u n s takes = leads_to u s (cycles_of kind LoadBuffer) s (loading kind (BufferCount (block_of s u)) s) (announces kind u n s takes)
 
-opened_is : (kind : Set) (u n : ℕ) (s m : ChipState) → m ≡ after_cycles u (cycles_of kind LoadBuffer) s → TakesLoad kind u n s → m ≡ loading kind (BufferCount (block_of s u)) s
-opened_is kind u n s m is takes = is ∙ leads_to u s (cycles_of kind LoadBuffer) s (loading kind (BufferCount (block_of s u)) s) (announces kind u n s takes)
-
-counted_is : (kind : Set) (u n : ℕ) (s m t : ChipState) → n ≤ 256 → m ≡ after_cycles u (cycles_of kind LoadBuffer) s → t ≡ written m u (spread (wide m) (n - 1)) → TakesLoad kind u n s
-    → t ≡ loading kind (BufferData (block_of s u) n 0 []) s
-counted_is kind u n s m t most first second takes =
+counted_is : (kind : Set) (u n : ℕ) (s : ChipState) → n ≤ 256 → TakesLoad kind u n s → load_opened kind u n s ≡ loading kind (BufferData (block_of s u) n 0 []) s
+counted_is kind u n s most takes =
     let b = block_of s u in
     let some = takes.some in
     let few = takes.few in
     let all : n - 1 + 1 ≡ n = omega (arith, some) in
-    second
-    ∙ (ap (λ (x : ChipState). written x u (spread (wide x) (n - 1))) (opened_is kind u n s m first takes)
+    ap (λ (x : ChipState). written x u (spread (wide x) (n - 1))) (opened_is kind u n s takes)
     ∙ (counts kind s b (n - 1) u (spread (wide s) (n - 1)) takes.takes (omega (arith, some, few)) (spread_low s.part.device (n - 1) (omega (arith, some, most)))
-    ∙ ap (λ (k : ℕ). loading kind (BufferData b k 0 []) s) all))
+    ∙ ap (λ (k : ℕ). loading kind (BufferData b k 0 []) s) all)
 
-filled_is : (kind : Set) (c u n : ℕ) (words : List (List ℕ)) (s m t x : ChipState) → LoadsAt kind c u n words s m t x → TakesLoad kind u n s
-    → x ≡ loading kind (BufferConfirm u (load_of s.part.device c words)) s
-filled_is kind c u n words s m t x at takes =
-    at.third
-    ∙ (ap (after_words c u words) (counted_is kind u n s m t at.few at.first at.second takes)
-    ∙ fills_to c s u words (loading kind (BufferData (block_of s u) n 0 []) s) (loading kind (BufferConfirm u (load_of s.part.device c words)) s) (fills kind c u n s words at.count takes))
+filled_is : (kind : Set) (c u n : ℕ) (words : List (List ℕ)) (s : ChipState) → n ≡ length words → n ≤ 256 → TakesLoad kind u n s
+    → load_filled kind u n words c s ≡ loading kind (BufferConfirm u (load_of s.part.device c words)) s
+filled_is kind c u n words s count most takes =
+    ap (after_words c u words) (counted_is kind u n s most takes)
+    ∙ fills_to c s u words (loading kind (BufferData (block_of s u) n 0 []) s) (loading kind (BufferConfirm u (load_of s.part.device c words)) s) (fills kind c u n s words count takes)
 
-pub begins : (kind : Set) (c u n : ℕ) (words : List (List ℕ)) (s m t x e : ChipState) → LoadsAt kind c u n words s m t x → e ≡ after_cycles u (cycles_of kind ConfirmLoad) x
-    → BeginsLoad kind u n (load_of s.part.device c words) s e
-begins kind c u n words s m t x e at is takes =
+begins : (kind : Set) (c u n : ℕ) (words : List (List ℕ)) (s e : ChipState) → n ≡ length words → n ≤ 256 → e ≡ load_sent kind u n words c s → BeginsLoad kind u n (load_of s.part.device c words) s e
+begins kind c u n words s e count most is takes =
     let bytes = load_of s.part.device c words in
-    is ∙ (ap (after_cycles u (cycles_of kind ConfirmLoad)) (filled_is kind c u n words s m t x at takes)
+    is ∙ (ap (after_cycles u (cycles_of kind ConfirmLoad)) (filled_is kind c u n words s count most takes)
     ∙ leads_to u s (cycles_of kind ConfirmLoad) (loading kind (BufferConfirm u bytes) s) (programming kind (place s.part u) bytes (load_reads s) s) (confirms kind u n bytes s takes))
 
--- power went in one of its parts
-pub loses_first : (kind : Set) (u n : ℕ) (bytes : List ℕ) (s e : ChipState) → DarkensIn u (cycles_of kind LoadBuffer) s e → LosesLoad kind u n bytes s e
+-- so it is in every lane
+pub begins_load : (kind : Set) (u n : ℕ) (words : List (List ℕ)) (old new : BusState) → n ≡ length words → n ≤ 256 → EachSent (load_sent kind u n words) old new → EachLoad words (BeginsLoad kind u n) old new
+begins_load kind u n words old new count most sent = λ c below. begins kind c u n words (lane old c) (lane new c) count most (sent c below)
+
+-- ---- power went in one of its parts
+
+loses_first : (kind : Set) (u n : ℕ) (bytes : List ℕ) (s e : ChipState) → DarkensIn u (cycles_of kind LoadBuffer) s e → LosesLoad kind u n bytes s e
 loses_first kind u n bytes s e dark takes =
     leads_dark (place s.part u) bytes u s (cycles_of kind LoadBuffer) s (loading kind (BufferCount (block_of s u)) s) e takes.takes.rest.job (announces kind u n s takes) dark
 
-pub loses_second : (kind : Set) (u n : ℕ) (bytes : List ℕ) (s m e : ChipState) → m ≡ after_cycles u (cycles_of kind LoadBuffer) s → Darkens m e → LosesLoad kind u n bytes s e
-loses_second kind u n bytes s m e first dark takes =
+loses_second : (kind : Set) (u n : ℕ) (bytes : List ℕ) (s e : ChipState) → Darkens (after_cycles u (cycles_of kind LoadBuffer) s) e → LosesLoad kind u n bytes s e
+loses_second kind u n bytes s e dark takes =
     let turned = turned_loading kind (BufferCount (block_of s u)) s in
-    dark_idle (place s.part u) bytes s m e turned.mode turned.step turned.flags takes.takes.rest.job turned.no_error (opened_is kind u n s m first takes ∙ turned.is) dark
+    dark_idle (place s.part u) bytes s (after_cycles u (cycles_of kind LoadBuffer) s) e turned.mode turned.step turned.flags takes.takes.rest.job turned.no_error (opened_is kind u n s takes ∙ turned.is) dark
 
-pub loses_third : (kind : Set) (c u n : ℕ) (words : List (List ℕ)) (s m t e : ChipState) → n ≡ length words → n ≤ 256 → m ≡ after_cycles u (cycles_of kind LoadBuffer) s
-    → t ≡ written m u (spread (wide m) (n - 1)) → DarkensInWords c u words t e → LosesLoad kind u n (load_of s.part.device c words) s e
-loses_third kind c u n words s m t e count most first second dark takes =
+loses_third : (kind : Set) (c u n : ℕ) (words : List (List ℕ)) (s e : ChipState) → n ≡ length words → n ≤ 256 → DarkensInWords c u words (load_opened kind u n s) e
+    → LosesLoad kind u n (load_of s.part.device c words) s e
+loses_third kind c u n words s e count most dark takes =
     let bytes = load_of s.part.device c words in
     fills_dark (place s.part u) bytes c s u words (loading kind (BufferData (block_of s u) n 0 []) s) (loading kind (BufferConfirm u bytes) s) e takes.takes.rest.job (fills kind c u n s words count takes)
-    (subst (λ (y : ChipState). DarkensInWords c u words y e) (counted_is kind u n s m t most first second takes) dark)
+    (subst (λ (y : ChipState). DarkensInWords c u words y e) (counted_is kind u n s most takes) dark)
 
-pub loses_fourth : (kind : Set) (c u n : ℕ) (words : List (List ℕ)) (s m t x e : ChipState) → LoadsAt kind c u n words s m t x → DarkensIn u (cycles_of kind ConfirmLoad) x e
+loses_fourth : (kind : Set) (c u n : ℕ) (words : List (List ℕ)) (s e : ChipState) → n ≡ length words → n ≤ 256 → DarkensIn u (cycles_of kind ConfirmLoad) (load_filled kind u n words c s) e
     → LosesLoad kind u n (load_of s.part.device c words) s e
-loses_fourth kind c u n words s m t x e at dark takes =
+loses_fourth kind c u n words s e count most dark takes =
     let bytes = load_of s.part.device c words in
     leads_dark (place s.part u) bytes u s (cycles_of kind ConfirmLoad) (loading kind (BufferConfirm u bytes) s) (programming kind (place s.part u) bytes (load_reads s) s) e takes.takes.rest.job
-    (confirms kind u n bytes s takes) (subst (λ (y : ChipState). DarkensIn u (cycles_of kind ConfirmLoad) y e) (filled_is kind c u n words s m t x at takes) dark)
+    (confirms kind u n bytes s takes) (subst (λ (y : ChipState). DarkensIn u (cycles_of kind ConfirmLoad) y e) (filled_is kind c u n words s count most takes) dark)
+
+pub loses_loading : (kind : Set) (u n : ℕ) (words : List (List ℕ)) (old new : BusState) → n ≡ length words → n ≤ 256 → DarkensLoading kind u n words old new → EachLoad words (LosesLoad kind u n) old new
+loses_loading kind u n words old new count most (inl dark) = λ c below. loses_first kind u n (load_of (lane old c).part.device c words) (lane old c) (lane new c) (dark c below)
+loses_loading kind u n words old new count most (inr (inl dark)) = λ c below. loses_second kind u n (load_of (lane old c).part.device c words) (lane old c) (lane new c) (dark c below)
+loses_loading kind u n words old new count most (inr (inr (inl dark))) = λ c below. loses_third kind c u n words (lane old c) (lane new c) count most (dark c below)
+loses_loading kind u n words old new count most (inr (inr (inr dark))) = λ c below. loses_fourth kind c u n words (lane old c) (lane new c) count most (dark c below)

@@ -101,7 +101,7 @@ ends_now : (kind : Set) (p : ℕ) (bytes : List ℕ) (s m t : ChipState) → s.p
 ends_now kind p bytes s m t set is e h =
     ends_program m t p bytes e h ∙ (ap (ended p bytes t) is ∙ ap (λ (k : Set). toggling t.toggle_6 t.toggle_2 (stored_by k kind (breaks p bytes s) p bytes t.cells s)) set)
 
-looks : (m : ChipState) (stuck : Bool) (job : Job) → m.part.stuck ≡ stuck → m.job ≡ job → look m ≡ look_at stuck job
+pub looks : (m : ChipState) (stuck : Bool) (job : Job) → m.part.stuck ≡ stuck → m.job ≡ job → look m ≡ look_at stuck job
 looks m stuck job is e = ap (look_at m.part.stuck) e ∙ ap (λ (b : Bool). look_at b job) is
 
 going : (stuck : Bool) (kind : Set) (p : ℕ) (bytes : List ℕ) (reads n left : ℕ) (s m t : ChipState) → s.part.set ≡ kind → m.part.stuck ≡ stuck → (stuck ≡ false → left + n ≡ reads)

@@ -8,16 +8,17 @@ use Rattle.nor_cell.specs.declared.device.Set.{Set}
 use Rattle.nor_cell.specs.declared.device.Set.TheVariants.{Intel, Amd}
 use Rattle.nor_cell.specs.declared.geometry.Geometry.{Geometry}
 use Rattle.nor_word.specs.Word.{lane_of}
-use Rattle.nor_bus.specs.Bus.{wide}
+use Rattle.nor_bus.specs.Bus.{BusState, lane, wide}
 use Rattle.nor_poll.specs.Codes.{cycles_of, after_cycles, DarkensIn}
-use Rattle.nor_bus.specs.Driven.{Darkens}
+use Rattle.nor_bus.specs.Driven.{Darkens, EachPart}
 use Rattle.nor_poll.specs.Polled.{Answers, polling_for, working_reads, viewed}
+use Rattle.nor_poll.specs.Reads.{EachSent}
 use Rattle.nor_poll.specs.Rest.{Resets, Settles, SettlesUnbroken, settled}
 use Rattle.nor_cell.specs.Between.{AtRest, IsClear, reset}
 use Rattle.nor_poll.specs.Losing.{LosesNone}
 use Rattle.nor_poll.specs.Toggles.{ShowsToggle, ShowsDatum, IsProgramFault}
 use Rattle.nor_poll.specs.Wait.{wait_most, wait_prompt}
-use Rattle.nor_poll.specs.Word.{TakesProgram, BeginsWord, LosesWord, programming, word_most, word_prompt, word_stuck, program_reads, working_at_each}
+use Rattle.nor_poll.specs.Word.{TakesProgram, BeginsWord, LosesWord, DarkensSending, programming, word_sent, word_begin, word_most, word_prompt, word_stuck, program_reads, working_at_each}
 use Rattle.nor_poll.specs.Words.{word_reads}
 use Rattle.nor_poll.specs.declared.polling.Polling.{Polling}
 use Rattle.nor_poll.specs.declared.polling.Polling.TheVariants.{Toggle, Data}
@@ -54,6 +55,9 @@ resets_by Amd u s rest = clears_2 u s rest
 pub resets : (set : Set) (u : ℕ) (s t : ChipState) → t ≡ after_cycles u (cycles_of set Reset) s → Resets set s t
 resets set u s t is rest = is ∙ leads_to u s (cycles_of set Reset) s (reset s) (resets_by set u s rest)
 
+pub loses_reset : (set : Set) (u : ℕ) (s t : ChipState) → DarkensIn u (cycles_of set Reset) s t → LosesNone (AtRest set) s t
+loses_reset set u s t dark rest = leads_dark 0 [] u s (cycles_of set Reset) s (reset s) t rest.job (resets_by set u s rest) dark
+
 -- the array is shown by one cycle, which is the first
 loses_first : (set : Set) (u : ℕ) (s t : ChipState) → DarkensIn u (cycles_of set ShowArray) s t → Darkens s t
 loses_first Intel u s t (inl dark) = dark
@@ -82,21 +86,27 @@ takes_word : (set : Set) (word : List ℕ) (u c : ℕ) (s : ChipState) → Takes
 takes_word Intel word u c s takes = takes_1 u (lane_of (wide s) word c) s takes
 takes_word Amd word u c s takes = takes_2 u (lane_of (wide s) word c) s takes
 
-leads_word : (set : Set) (u : ℕ) (s m : ChipState) → TakesProgram set u s → m ≡ after_cycles u (cycles_of set ProgramWord) s → m ≡ announced set s
-leads_word set u s m takes is = is ∙ leads_to u s (cycles_of set ProgramWord) s (announced set s) (announces set u s takes)
+leads_word : (set : Set) (u : ℕ) (s : ChipState) → TakesProgram set u s → after_cycles u (cycles_of set ProgramWord) s ≡ announced set s
+leads_word set u s takes = leads_to u s (cycles_of set ProgramWord) s (announced set s) (announces set u s takes)
 
-pub begins : (set : Set) (word : List ℕ) (u c : ℕ) (s m t : ChipState) → m ≡ after_cycles u (cycles_of set ProgramWord) s → t ≡ written m u (lane_of (wide m) word c) → BeginsWord set u (lane_of (wide s) word c) s t
-begins set word u c s m t first second takes =
-    second ∙ (ap (λ (x : ChipState). written x u (lane_of (wide x) word c)) (leads_word set u s m takes first) ∙ takes_word set word u c s takes)
+pub begins_word : (set : Set) (u : ℕ) (word : List ℕ) (old new : BusState) → EachSent (word_sent set u word) old new → EachPart word (BeginsWord set u) old new
+begins_word set u word old new sent = λ c below takes.
+    let s = lane old c in
+    sent c below ∙ (ap (λ (x : ChipState). written x u (lane_of (wide x) word c)) (leads_word set u s takes) ∙ takes_word set word u c s takes)
 
-pub loses_announcing : (set : Set) (u v : ℕ) (s t : ChipState) → DarkensIn u (cycles_of set ProgramWord) s t → LosesWord set u v s t
+loses_announcing : (set : Set) (u v : ℕ) (s t : ChipState) → DarkensIn u (cycles_of set ProgramWord) s t → LosesWord set u v s t
 loses_announcing set u v s t dark takes =
     leads_dark (place s.part u) (unit_bytes s.part.device v) u s (cycles_of set ProgramWord) s (announced set s) t takes.takes.rest.job (announces set u s takes) dark
 
-pub loses_announced : (set : Set) (u v : ℕ) (s m t : ChipState) → m ≡ after_cycles u (cycles_of set ProgramWord) s → Darkens m t → LosesWord set u v s t
-loses_announced set u v s m t first dark takes =
+loses_announced : (set : Set) (u v : ℕ) (s t : ChipState) → Darkens (after_cycles u (cycles_of set ProgramWord) s) t → LosesWord set u v s t
+loses_announced set u v s t dark takes =
     let k = turned set s in
-    dark_idle (place s.part u) (unit_bytes s.part.device v) s m t k.mode k.step k.flags takes.takes.rest.job k.no_error (leads_word set u s m takes first ∙ k.is) dark
+    dark_idle (place s.part u) (unit_bytes s.part.device v) s (after_cycles u (cycles_of set ProgramWord) s) t k.mode k.step k.flags takes.takes.rest.job k.no_error (leads_word set u s takes ∙ k.is) dark
+
+-- power went up to the word
+pub loses_sending : (set : Set) (u : ℕ) (word : List ℕ) (old new : BusState) → DarkensSending set u old new → EachPart word (LosesWord set u) old new
+loses_sending set u word old new (inl dark) = λ c below. loses_announcing set u (lane_of (wide (lane old c)) word c) (lane old c) (lane new c) (dark c below)
+loses_sending set u word old new (inr dark) = λ c below. loses_announced set u (lane_of (wide (lane old c)) word c) (lane old c) (lane new c) (dark c below)
 
 -- ---- how it is polled
 
@@ -147,10 +157,10 @@ views_all set g new how t is = ap (λ (p : Polling _). viewed p t) is ∙ views_
 
 -- Those of a program: with so many polls, to the last of them, and where no lane works for long.
 pub record WordFits (set : Set) (limit most stuck : ℕ) : Type 0 where
-  pub begun : length (cycles_of set ProgramWord) + 1 + most + length (cycles_of set ClearErrors) ≤ word_most set limit
-  pub shown : (bits : ℕ) → length (cycles_of set ProgramWord) + 1 + most + (length (cycles_of set ShowArray) + min bits 1) ≤ word_most set limit
-  pub least : (bits : ℕ) → 5 ≤ length (cycles_of set ProgramWord) + 1 + 1 + (length (cycles_of set ShowArray) + min bits 1)
-  pub stuck_at : length (cycles_of set ProgramWord) + 1 + stuck ≡ word_stuck set limit
+  pub begun : word_begin set + most + length (cycles_of set ClearErrors) ≤ word_most set limit
+  pub shown : (bits : ℕ) → word_begin set + most + (length (cycles_of set ShowArray) + min bits 1) ≤ word_most set limit
+  pub least : (bits : ℕ) → 5 ≤ word_begin set + 1 + (length (cycles_of set ShowArray) + min bits 1)
+  pub stuck_at : word_begin set + stuck ≡ word_stuck set limit
   pub reads : most ≤ program_reads set limit
   pub works : stuck ≡ working_at_each set limit
 
@@ -167,17 +177,17 @@ word_fits set g new how limit is = subst (λ (p : Polling _). WordFits set limit
 
 -- where no lane works for long
 prompt_amd : {W : Type 0} (new : W) (one : Bool) (most bits : ℕ)
-    → length (cycles_of Amd ProgramWord) + 1 + wait_prompt (if one then Data new else Toggle) most + (length (cycles_of Amd ShowArray) + min bits 1) ≤ word_prompt Amd most + min bits 1
+    → word_begin Amd + wait_prompt (if one then Data new else Toggle) most + (length (cycles_of Amd ShowArray) + min bits 1) ≤ word_prompt Amd most + min bits 1
 prompt_amd new true most bits = omega arith
 prompt_amd new false most bits = omega arith
 
 prompt_own : {W : Type 0} (set : Set) (g : Geometry) (new : W) (most bits : ℕ)
-    → length (cycles_of set ProgramWord) + 1 + wait_prompt (polling_for set g new) most + (length (cycles_of set ShowArray) + min bits 1) ≤ word_prompt set most + min bits 1
+    → word_begin set + wait_prompt (polling_for set g new) most + (length (cycles_of set ShowArray) + min bits 1) ≤ word_prompt set most + min bits 1
 prompt_own Intel g new most bits = omega arith
 prompt_own Amd g new most bits = prompt_amd new (g.lanes == 1) most bits
 
 pub prompt_fits : {W : Type 0} (set : Set) (g : Geometry) (new : W) (how : Polling W) (most bits : ℕ) → how ≡ polling_for set g new
-    → length (cycles_of set ProgramWord) + 1 + wait_prompt how most + (length (cycles_of set ShowArray) + min bits 1) ≤ word_prompt set most + min bits 1
+    → word_begin set + wait_prompt how most + (length (cycles_of set ShowArray) + min bits 1) ≤ word_prompt set most + min bits 1
 prompt_fits set g new how most bits is =
-    subst (λ (p : Polling _). length (cycles_of set ProgramWord) + 1 + wait_prompt p most + (length (cycles_of set ShowArray) + min bits 1) ≤ word_prompt set most + min bits 1) (sym is)
+    subst (λ (p : Polling _). word_begin set + wait_prompt p most + (length (cycles_of set ShowArray) + min bits 1) ≤ word_prompt set most + min bits 1) (sym is)
     (prompt_own set g new most bits)

@@ -1,6 +1,6 @@
 -- A suspend of one lane, by either set.
-use Rattle.std.proofs.Common.{◌≡◌, ◌+◌, ◌-◌, ◌*◌, ◌<◌, ◌≤◌, ◌⊎◌, inl, inr, ℕ, refl, sym, subst, ap, arith, ◌∙◌, Bool, true, false, List, [], length, slice_index}
-use Rattle.nor_cell.specs.Chip.{ChipState, Part, Mode, Array, Status, Job, Idle, Erase, Pausing, OneBlock, Held, NotHeld, Holds, Flags, runs, is_within, block, counted, reads_left, holds_at, NoFault}
+use Rattle.std.proofs.Common.{◌≡◌, ◌+◌, ◌-◌, ◌*◌, ◌<◌, ◌≤◌, ◌⊎◌, inl, inr, ℕ, refl, sym, subst, ap, arith, ◌∙◌, Bool, true, false, List, length, slice_index}
+use Rattle.nor_cell.specs.Chip.{ChipState, Part, Mode, Array, Status, Job, Idle, Erase, Pausing, OneBlock, Held, NotHeld, Holds, runs, is_within, block, counted, reads_left, holds_at, NoFault}
 use Rattle.nor_cell.specs.Power.{Cuts, is_erasing_at, erases_at, programs_at}
 use Rattle.nor_cell.specs.declared.device.Set.{Set}
 use Rattle.nor_cell.specs.declared.device.Set.TheVariants.{Intel, Amd}

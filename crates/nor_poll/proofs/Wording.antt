@@ -17,7 +17,7 @@ use Rattle.nor_poll.specs.Reads.{AfterReads, WorksAfter, ReadBy, DarkAfter, Each
 use Rattle.nor_poll.specs.Rest.{SettlesUnbroken}
 use Rattle.nor_poll.proofs.Waiting.{IsEnded}
 use Rattle.nor_poll.specs.Wait.{WorksFor, WaitHalts, wait_most}
-use Rattle.nor_poll.specs.Word.{TakesProgram, BeginsWord, ProgramsWord, LosesWord, TearsWord, TellsBroken, EndsWithin, IsStuckBy, WordHalts, is_broken, word_most, word_stuck, word_sent, program_reads, working_at_each}
+use Rattle.nor_poll.specs.Word.{TakesProgram, BeginsWord, ProgramsWord, LosesWord, TearsWord, TellsBroken, EndsWithin, IsStuckBy, WordHalts, is_broken, word_begin, word_most, word_stuck, word_sent, program_reads, working_at_each}
 use Rattle.nor_poll.proofs.Reading.{dark_sent, read_sent}
 use Rattle.nor_poll.specs.Words.{word_reads}
 use Rattle.nor_poll.specs.declared.lanes.Halt.{Halt}
@@ -117,23 +117,23 @@ stuck_word kind u v n limit s b begins enough working takes few =
 pub went_by : (n : ℕ) (a b : BusState) → ReadBy n n a b → Went n n a b
 went_by n a b h = let e : h.reads ≡ n = let p = h.enough in let q = h.few in omega (arith, p, q) in subst (λ (k : ℕ). Went k k a b) e h.went
 
-pub word_halts : {W : Type 0} (bytes : W → List ℕ) (how : Polling W) (kind : Set) (width u limit first : ℕ) (g : Geometry) (word : List ℕ) (old mid after : BusState) (halt : Halt)
-    → first + wait_most how limit ≤ word_most kind limit → first + working_reads how * limit ≡ word_stuck kind limit → Went first first old mid
+pub word_halts : {W : Type 0} (bytes : W → List ℕ) (how : Polling W) (kind : Set) (width u limit : ℕ) (g : Geometry) (word : List ℕ) (old mid after : BusState) (halt : Halt)
+    → word_begin kind + wait_most how limit ≤ word_most kind limit → word_begin kind + working_reads how * limit ≡ word_stuck kind limit → Went (word_begin kind) (word_begin kind) old mid
     → (Reaches width g u old → EachPart word (BeginsWord kind u) old mid)
     → (Reaches width g u old → (c : ℕ) → c < lanes_of old → TakesProgram kind u (lane old c) → Answers bytes how u c (lane mid c))
     → (Reaches width g u old → EachSent (word_sent kind u word) old mid) → wait_most how limit ≤ program_reads kind limit → working_reads how * limit ≡ working_at_each kind limit
     → WaitHalts width bytes g how u limit mid after halt → WordHalts kind width g u word limit old after halt
-word_halts bytes how kind width u limit first g word old mid after Off fits same went begins answers sent most works h = (
-  lost_then first first (wait_most how limit) (word_most kind limit) old mid after fits went h.0,
+word_halts bytes how kind width u limit g word old mid after Off fits same went begins answers sent most works h = (
+  lost_then (word_begin kind) (wait_most how limit) (word_most kind limit) old mid after fits went h.lost,
   λ reaches k below.
-      dark_word kind u (lane_of (wide (lane old k)) word k) h.1.reads (lane old k) (lane mid k) (lane after k) (begins reaches k below) (h.1.each k (lane_kept old mid k went.kept below)),
-  λ reaches. inr (inl (dark_sent (word_sent kind u word) (wait_most how limit) (program_reads kind limit) old mid after most went.kept (sent reaches) h.1)),
+      dark_word kind u (lane_of (wide (lane old k)) word k) h.lost.cycles (lane old k) (lane mid k) (lane after k) (begins reaches k below) (h.each k (lane_kept old mid k went.kept below)),
+  λ reaches. inr (inl (dark_sent (word_sent kind u word) (word_begin kind) (wait_most how limit) (program_reads kind limit) old mid after most went (sent reaches) h)),
 )
-word_halts bytes how kind width u limit first g word old mid after (Stuck n) fits same went begins answers sent most works h =
+word_halts bytes how kind width u limit g word old mid after (Stuck n) fits same went begins answers sent most works h =
     let polls = working_reads how * limit in
     let reads = h.1 in (
       h.0,
-      went_then first first polls polls (word_stuck kind limit) (word_stuck kind limit) old mid after (omega (arith, same)) (omega (arith, same)) went (went_by polls mid after reads),
+      went_then (word_begin kind) (word_begin kind) polls polls (word_stuck kind limit) (word_stuck kind limit) old mid after (omega (arith, same)) (omega (arith, same)) went (went_by polls mid after reads),
       λ reaches k below.
           tears_word kind u (lane_of (wide (lane old k)) word k) reads.reads (lane old k) (lane mid k) (lane after k) (begins reaches k below)
           (reads.each k (lane_kept old mid k went.kept below)),

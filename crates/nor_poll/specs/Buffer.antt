@@ -14,11 +14,13 @@ use Rattle.nor_cell.specs.declared.device.Work.TheVariants.{Buffer}
 use Rattle.nor_cell.specs.declared.geometry.Geometry.{Geometry}
 use Rattle.nor_word.specs.Word.{lane_of}
 use Rattle.nor_bus.specs.Bus.{BusState, lane, lanes_of, wide}
-use Rattle.nor_bus.specs.Driven.{Reaches, Went, Lost, AllLanes, Counted, Darkens}
-use Rattle.nor_poll.specs.Codes.{cycle_count}
-use Rattle.nor_poll.specs.Losing.{Tears, Loses}
-use Rattle.nor_poll.specs.Word.{ProgramDone, programming}
+use Rattle.nor_bus.specs.Driven.{Reaches, Went, Lost, AllLanes, Counted, EachLane, Darkens}
+use Rattle.nor_poll.specs.Codes.{cycle_count, cycles_of, code, after_cycle, after_cycles, DarkensIn}
+use Rattle.nor_poll.specs.Losing.{Tears, Loses, DarkensPolling}
+use Rattle.nor_poll.specs.Reads.{EachNumbered, EachRead}
+use Rattle.nor_poll.specs.Word.{ProgramDone, programming, program_reads, working_at_each}
 use Rattle.nor_poll.specs.Words.{breaks}
+use Rattle.nor_poll.specs.declared.codes.To.TheVariants.{Here}
 use Rattle.nor_poll.specs.declared.codes.Command.TheVariants.{LoadBuffer, ConfirmLoad}
 use Rattle.nor_poll.specs.declared.lanes.LaneSet.{LaneSet}
 use Rattle.nor_poll.specs.declared.lanes.Halt.{Halt}
@@ -121,6 +123,34 @@ abbrev pub load_stuck : Set → ℕ → ℕ → ℕ
 load_stuck Intel n limit = n + limit + 4
 load_stuck Amd n limit = n + 2 * limit + 5
 
+-- ---- which cycles had reached the chips
+
+-- the chip as its count was written, behind the command
+abbrev pub load_opened : Set → (u n : ℕ) → ChipState → ChipState
+load_opened set u n s = after_cycle u (code (n - 1) Here) (after_cycles u (cycles_of set LoadBuffer) s)
+
+-- lane c's chip as its parts of the words were sent too
+abbrev pub load_filled : Set → (u n : ℕ) → List (List ℕ) → ℕ → ChipState → ChipState
+load_filled set u n words c s = after_words c u words (load_opened set u n s)
+
+-- and as it was confirmed
+abbrev pub load_sent : Set → (u n : ℕ) → List (List ℕ) → ℕ → ChipState → ChipState
+load_sent set u n words c s = after_cycles u (cycles_of set ConfirmLoad) (load_filled set u n words c s)
+
+-- power went while the command was written, the count, a word, or the confirm
+abbrev pub DarkensLoading : Set → (u n : ℕ) → List (List ℕ) → BusState → BusState → Type 0
+DarkensLoading set u n words old new =
+    EachLane (DarkensIn u (cycles_of set LoadBuffer)) old new
+    ⊎ (EachLane (λ s t. Darkens (after_cycles u (cycles_of set LoadBuffer) s) t) old new
+    ⊎ (EachNumbered (λ c s t. DarkensInWords c u words (load_opened set u n s) t) old new
+    ⊎ EachNumbered (λ c s t. DarkensIn u (cycles_of set ConfirmLoad) (load_filled set u n words c s) t) old new))
+
+-- or after that
+abbrev pub DarkensLoad : Set → (u n : ℕ) → List (List ℕ) → ℕ → BusState → BusState → Type 0
+DarkensLoad set u n words limit old new =
+    DarkensLoading set u n words old new
+    ⊎ DarkensPolling (load_sent set u n words) (load_begin set n) (program_reads set limit) set u old new
+
 -- ---- all lanes
 
 -- the bus has all the units
@@ -128,9 +158,11 @@ abbrev pub ReachesAll : ℕ → Geometry → ℕ → ℕ → BusState → Type 0
 ReachesAll width g u n bus = Reaches width g (last_of u n) bus
 
 -- The set has the lanes that broke off, and no lane that isn't there.
-pub record AreLoadsBroken (set : Set) (width : ℕ) (g : Geometry) (u : ℕ) (words : List (List ℕ)) (old : BusState) (broken : LaneSet) : Type 0 where
+pub record AreLoadsBroken (set : Set) (width : ℕ) (g : Geometry) (u : ℕ) (words : List (List ℕ)) (old : BusState)
+    (broken : LaneSet) : Type 0 where
   pub told : ReachesAll width g u (length words) old → (c : ℕ) → c < lanes_of old
-      → TellsLoadBroken set u (length words) (load_of (lane old c).part.device c words) (has_bit broken.bits c) (lane old c)
+      → TellsLoadBroken set u (length words) (load_of (lane old c).part.device c words) (has_bit broken.bits c)
+      (lane old c)
   pub past : (c : ℕ) → g.lanes ≤ c → has_bit broken.bits c ≡ false
 
 -- Where no lane works for more than `most` reads, there were few more cycles; one more where a lane broke off.
@@ -144,7 +176,10 @@ abbrev pub LoadHalts : Set → ℕ → Geometry → ℕ → List (List ℕ) → 
 LoadHalts set width g u words limit old new Off =
     Lost (load_most set (length words) limit) old new
     × (ReachesAll width g u (length words) old → EachLoad words (LosesLoad set u (length words)) old new)
+    × (ReachesAll width g u (length words) old → DarkensLoad set u (length words) words limit old new)
 LoadHalts set width g u words limit old new (Stuck k) =
     (k < g.lanes) × Went (load_stuck set (length words) limit) (load_stuck set (length words) limit) old new
     × (ReachesAll width g u (length words) old → EachLoad words (TearsLoad set u (length words)) old new)
     × (ReachesAll width g u (length words) old → IsStuckByLoad set u (length words) limit (lane old k))
+    × (ReachesAll width g u (length words) old
+    → EachRead (load_sent set u (length words) words) (working_at_each set limit) old new)

@@ -5,10 +5,10 @@ use Rattle.nor_cell.specs.Chip.{ChipState, Idle}
 use Rattle.nor_cell.specs.Power.{is_erasing_at}
 use Rattle.nor_cell.specs.Steps.{Remains}
 use Rattle.nor_cell.specs.declared.device.Set.{Set}
-use Rattle.nor_bus.specs.Bus.{BusState, lane, lanes_of}
-use Rattle.nor_bus.specs.Driven.{EachLane}
+use Rattle.nor_bus.specs.Bus.{BusState}
+use Rattle.nor_bus.specs.Driven.{Lost, EachLane}
 use Rattle.nor_poll.specs.Codes.{after_cycles, cycles_of, DarkensIn}
-use Rattle.nor_poll.specs.Reads.{AfterReads, DarkensAfter}
+use Rattle.nor_poll.specs.Reads.{AfterReads, EachNumbered, DarkensAfter}
 use Rattle.nor_poll.specs.declared.codes.Cycle.{Cycle}
 use Rattle.nor_poll.specs.declared.codes.Command.TheVariants.{ShowArray, ClearErrors}
 
@@ -19,7 +19,8 @@ pub record IsUnmoved (s t : ChipState) : Type 0 where
   pub suspends : t.suspends ≡ s.suspends
   pub no_error : t.flags.erase ≡ true → s.flags.erase ≡ true
 
--- So it is, and its bytes are as before, but for what is spoilt, and for bits between what they were and these bytes from place `at` on.
+-- So it is, and its bytes are as before, but for what is spoilt, and for bits between what they were and these bytes
+-- from place `at` on.
 pub record IsLeft (spoilt : ℕ → Bool) (at : ℕ) (bytes : List ℕ) (s t : ChipState) : Type 0 where
   pub keeps : IsUnmoved s t
   pub below : (p : ℕ) → spoilt p ≡ false → p < at → slice_index t.cells p ≡ slice_index s.cells p
@@ -47,7 +48,9 @@ BeginsNone Was s t = Was s → Loses 0 [] s t × (t.job ≡ Idle)
 
 -- Power went while these codes were written, or in the reads after them, at most so many.
 abbrev pub DarkensLooking : ℕ → List Cycle → ℕ → BusState → BusState → Type 0
-DarkensLooking u first most old new = EachLane (DarkensIn u first) old new ⊎ DarkensAfter (λ c s. after_cycles u first s) most old new
+DarkensLooking u first most old new =
+    EachLane (DarkensIn u first) old new
+    ⊎ DarkensAfter (λ c s. after_cycles u first s) (length first) most old new
 
 -- Power went while these codes were written, after so many reads.
 pub record DarkAtEnd (reads u : ℕ) (last : List Cycle) (s t : ChipState) : Type 0 where
@@ -55,26 +58,37 @@ pub record DarkAtEnd (reads u : ℕ) (last : List Cycle) (s t : ChipState) : Typ
   pub read : AfterReads s reads mid
   pub dark : DarkensIn u last mid t
 
--- So it is with each lane, after what was sent to it, and as many reads of each.
-pub record DarkensEnding (sent : ℕ → ChipState → ChipState) (most u : ℕ) (last : List Cycle) (old new : BusState) : Type 0 where
+-- So it is with each lane, after what was sent to it in `before` cycles, and as many reads of each.
+pub record DarkensEnding (sent : ℕ → ChipState → ChipState) (before most u : ℕ) (last : List Cycle) (old new : BusState)
+    : Type 0 where
+  pub lost : Lost (before + most + length last) old new
   pub reads : ℕ
   pub few : reads ≤ most
-  pub each : (c : ℕ) → c < lanes_of old → DarkAtEnd reads u last (sent c (lane old c)) (lane new c)
+  pub counted : before + reads ≤ lost.cycles
+  pub each : EachNumbered (λ c s t. DarkAtEnd reads u last (sent c s) t) old new
 
 -- Power went in a call that writes the first codes, makes at most so many reads, and writes the last codes.
 abbrev pub DarkensCall : ℕ → (first last : List Cycle) → ℕ → BusState → BusState → Type 0
 DarkensCall u first last most old new =
-    DarkensLooking u first most old new ⊎ DarkensEnding (λ c s. after_cycles u first s) most u last old new
+    DarkensLooking u first most old new
+    ⊎ DarkensEnding (λ c s. after_cycles u first s) (length first) most u last old new
 
 -- ---- of a program
+
+-- power went while these codes were written
+pub record DarkensCodes (u : ℕ) (codes : List Cycle) (old new : BusState) : Type 0 where
+  pub lost : Lost (length codes) old new
+  pub each : EachLane (DarkensIn u codes) old new
 
 -- Power went as the array was to be shown, or errors were to be cleared.
 abbrev pub DarkensResting : Set → ℕ → BusState → BusState → Type 0
 DarkensResting set u old new =
-    EachLane (DarkensIn u (cycles_of set ShowArray)) old new ⊎ EachLane (DarkensIn u (cycles_of set ClearErrors)) old new
+    DarkensCodes u (cycles_of set ShowArray) old new ⊎ DarkensCodes u (cycles_of set ClearErrors) old new
 
--- So it is after what was sent and at most so many reads, or power went in these.
-abbrev pub DarkensPolling : (sent : ℕ → ChipState → ChipState) → ℕ → Set → ℕ → BusState → BusState → Type 0
-DarkensPolling sent most set u old new =
-    DarkensAfter sent most old new
-    ⊎ (DarkensEnding sent most u (cycles_of set ShowArray) old new ⊎ DarkensEnding sent most u (cycles_of set ClearErrors) old new)
+-- So it is after what was sent in `before` cycles and at most so many reads, or power went in these.
+abbrev pub DarkensPolling : (sent : ℕ → ChipState → ChipState) → (before most : ℕ) → Set → ℕ
+    → BusState → BusState → Type 0
+DarkensPolling sent before most set u old new =
+    DarkensAfter sent before most old new
+    ⊎ (DarkensEnding sent before most u (cycles_of set ShowArray) old new
+    ⊎ DarkensEnding sent before most u (cycles_of set ClearErrors) old new)

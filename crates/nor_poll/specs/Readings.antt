@@ -13,4 +13,5 @@ told_of bytes (Status word) d c = status_says (lane_of d (bytes word) c)
 told_of bytes (EraseStatus word) d c = status_says (heeded (lane_of d (bytes word) c))
 told_of bytes (Pair first second) d c = pair_says (lane_of d (bytes first) c) (lane_of d (bytes second) c)
 told_of bytes (Over second third) d c = over_says (lane_of d (bytes second) c) (lane_of d (bytes third) c)
-told_of bytes (Datum datum first second) d c = data_says (lane_of d (bytes datum) c) (lane_of d (bytes first) c) (lane_of d (bytes second) c)
+told_of bytes (Datum datum first second) d c =
+    data_says (lane_of d (bytes datum) c) (lane_of d (bytes first) c) (lane_of d (bytes second) c)

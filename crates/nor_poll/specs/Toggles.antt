@@ -61,7 +61,9 @@ data_says v first second = if is_complement v second then pair_says first second
 -- a program under way ends with unit u, which isn't in a held block
 abbrev pub EndsAt : Job → Held → Part → ℕ → Type 0
 EndsAt Idle held part u = Unit {0}
-EndsAt (Program p bytes left) held part u = (p ≤ place part u) × (place part u + unit_len part.device ≡ p + length bytes) × (holds_at held part.blocks (place part u) ≡ false)
+EndsAt (Program p bytes left) held part u =
+    (p ≤ place part u) × (place part u + unit_len part.device ≡ p + length bytes)
+    × (holds_at held part.blocks (place part u) ≡ false)
 EndsAt (Erase target left) held part u = Unit {0}
 EndsAt (Pausing b wait left) held part u = Unit {0}
 

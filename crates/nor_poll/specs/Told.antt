@@ -26,7 +26,8 @@ seen working held flags =
     else if held then Suspended
     else Ready
 
--- what is to be told of a chip of set 0002 that runs no job: its fault, and whether the unit that was read lies in its held block
+-- what is to be told of a chip of set 0002 that runs no job: its fault, and whether the unit that was read lies in its
+-- held block
 abbrev pub seen_fault : Fault → Bool → Seen
 seen_fault NoFault here = if here then Suspended else Ready
 seen_fault (TimeFault job) here = Broken Time

@@ -3,7 +3,7 @@ use Rattle.std.specs.Prelude.{◌≡◌, ◌<◌, ◌+◌, ◌-◌, ◌*◌, ℕ
 use Rattle.nor_cell.specs.Chip.{ChipState, Idle}
 use Rattle.nor_cell.specs.declared.geometry.Geometry.{Geometry}
 use Rattle.nor_bus.specs.Bus.{BusState, lane, lanes_of, units_of}
-use Rattle.nor_bus.specs.Driven.{IsOwn, Lost}
+use Rattle.nor_bus.specs.Driven.{IsOwn}
 use Rattle.nor_poll.specs.Told.{seen_idle}
 use Rattle.nor_poll.specs.Reads.{AfterReads, WorksAfter, ReadBy, DarkensReading}
 use Rattle.nor_poll.specs.Polled.{Answers, working_reads, viewed}
@@ -42,10 +42,16 @@ wait_prompt EraseStatus most = most + 1
 wait_prompt Toggle most = most + 3
 wait_prompt (Data datum) most = most + 3
 
+-- where the geometry is the bus's own, the bus has the address, and a poll was made
+abbrev pub WherePolled : ℕ → Geometry → (u limit : ℕ) → BusState → Type 0 → Type 0
+WherePolled width g u limit bus P = IsOwn width g bus → u < units_of bus → 0 < limit → P
+
 -- The wait was given up: a cycle failed, or lane k is the lowest that the last of the polls told to work.
-abbrev pub WaitHalts : ℕ → {W : Type 0} (bytes : W → List ℕ) → Geometry → Polling W → ℕ → ℕ → BusState → BusState → Halt → Type 0
-WaitHalts width bytes g how u limit old new Off = Lost (wait_most how limit) old new × DarkensReading (wait_most how limit) old new
+abbrev pub WaitHalts : ℕ → {W : Type 0} (bytes : W → List ℕ) → Geometry → Polling W → (u limit : ℕ)
+    → BusState → BusState → Halt → Type 0
+WaitHalts width bytes g how u limit old new Off = DarkensReading (wait_most how limit) old new
 WaitHalts width bytes g how u limit old new (Stuck k) =
     (k < g.lanes) × ReadBy (working_reads how * limit) (working_reads how * limit) old new
-    × (IsOwn width g old → u < units_of old → 0 < limit → Answers bytes how u k (lane old k) → WorksAfter (working_reads how * limit - working_reads how) (lane old k))
-    × (IsOwn width g old → u < units_of old → 0 < limit → (c : ℕ) → c < k → Answers bytes how u c (lane old c) → (lane new c).job ≡ Idle)
+    × WherePolled width g u limit old (Answers bytes how u k (lane old k)
+    → WorksAfter (working_reads how * limit - working_reads how) (lane old k))
+    × WherePolled width g u limit old ((c : ℕ) → c < k → Answers bytes how u c (lane old c) → (lane new c).job ≡ Idle)

@@ -11,7 +11,7 @@ use Rattle.nor_cell.specs.declared.geometry.Geometry.{Geometry}
 use Rattle.nor_word.specs.Word.{lane_of}
 use Rattle.nor_bus.specs.Bus.{BusState, lane, lanes_of, wide}
 use Rattle.nor_bus.specs.Driven.{Reaches, Went, Lost, AllLanes, Counted, EachLane, EachPart, Darkens}
-use Rattle.nor_poll.specs.Codes.{after_cycles, cycles_of, DarkensIn}
+use Rattle.nor_poll.specs.Codes.{after_cycles, cycles_of, cycle_count, DarkensIn}
 use Rattle.nor_poll.specs.Losing.{Tears, Loses, DarkensPolling}
 use Rattle.nor_poll.specs.Reads.{EachRead}
 use Rattle.nor_poll.specs.declared.codes.Command.TheVariants.{ProgramWord}
@@ -39,11 +39,13 @@ work_mode Amd = Array
 
 -- the chip programs these bytes from place p on
 abbrev pub programming : Set → ℕ → List ℕ → ℕ → ChipState → ChipState
-programming kind p bytes left s = record s { mode = work_mode kind; step = Rest; flags = cleared_flags kind s.flags; job = Program p bytes left }
+programming kind p bytes left s =
+    record s { mode = work_mode kind; step = Rest; flags = cleared_flags kind s.flags; job = Program p bytes left }
 
 -- the chip began to program v at unit u
 abbrev pub BeginsWord : Set → ℕ → ℕ → ChipState → ChipState → Type 0
-BeginsWord kind u v s t = TakesProgram kind u s → t ≡ programming kind (place s.part u) (unit_bytes s.part.device v) (word_reads s) s
+BeginsWord kind u v s t =
+    TakesProgram kind u s → t ≡ programming kind (place s.part u) (unit_bytes s.part.device v) (word_reads s) s
 
 -- These bytes were programmed from place p on: the cells have become old AND new, which is new where new has no bit that old
 -- lacked; or bits between, from where the program broke off. All else is as before, but for the toggle bits of set 0002; the
@@ -84,6 +86,10 @@ abbrev pub IsStuckBy : Set → ℕ → ℕ → ChipState → Type 0
 IsStuckBy kind u limit s = TakesProgram kind u s → word_reads s < limit → s.part.stuck ≡ true
 
 -- ---- how many cycles a call makes
+
+-- up to the word itself
+abbrev pub word_begin : Set → ℕ
+word_begin set = cycle_count set ProgramWord + 1
 
 -- at most, with so many polls
 abbrev pub word_most : Set → ℕ → ℕ
@@ -128,12 +134,14 @@ DarkensSending set u old new =
 -- or after that
 abbrev pub DarkensWord : Set → ℕ → List ℕ → ℕ → BusState → BusState → Type 0
 DarkensWord set u word limit old new =
-    DarkensSending set u old new ⊎ DarkensPolling (word_sent set u word) (program_reads set limit) set u old new
+    DarkensSending set u old new
+    ⊎ DarkensPolling (word_sent set u word) (word_begin set) (program_reads set limit) set u old new
 
 -- ---- all lanes
 
 -- The set has the lanes that broke off, and no lane that isn't there.
-pub record AreBroken (set : Set) (width : ℕ) (g : Geometry) (u : ℕ) (word : List ℕ) (old : BusState) (broken : LaneSet) : Type 0 where
+pub record AreBroken (set : Set) (width : ℕ) (g : Geometry) (u : ℕ) (word : List ℕ) (old : BusState) (broken : LaneSet)
+    : Type 0 where
   pub told : Reaches width g u old → (c : ℕ) → c < lanes_of old
       → TellsBroken set u (has_bit broken.bits c) (lane_of (wide (lane old c)) word c) (lane old c)
   pub past : (c : ℕ) → g.lanes ≤ c → has_bit broken.bits c ≡ false

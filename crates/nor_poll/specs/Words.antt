@@ -24,7 +24,8 @@ unit_breaks u v s = breaks (place s.part u) (unit_bytes s.part.device v) s
 
 -- no datum has a bit that its byte lacks
 abbrev pub ClearsBits : ℕ → List ℕ → List ℕ → Type 0
-ClearsBits p bytes cells = (i : ℕ) → i < length bytes → bit_and (slice_index cells (p + i)) (slice_index bytes i) ≡ slice_index bytes i
+ClearsBits p bytes cells =
+    (i : ℕ) → i < length bytes → bit_and (slice_index cells (p + i)) (slice_index bytes i) ≡ slice_index bytes i
 
 -- these bytes stand from place p on
 abbrev pub HoldsBytes : ℕ → List ℕ → List ℕ → Type 0

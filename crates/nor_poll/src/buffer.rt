@@ -1,13 +1,14 @@
 //! Programming a buffer of bus words, by the commands of either set.
-ghost use Rattle.std.specs.Prelude.{◌≡◌, ◌≤◌, ◌+◌, ◌-◌, ◌%◌, ◌^◌, ◌<◌, ℕ, IsTrue, IfOk, IfErr, OnOk, OnErr, length, map, slice_get, Some};
+ghost use Rattle.std.specs.Prelude.{◌≡◌, ◌≤◌, ◌+◌, ◌-◌, ◌%◌, ◌^◌, ◌<◌, ℕ, IsTrue, IfOk, IfErr, OnOk, OnErr, length, map};
 ghost use Rattle.nor_cell.specs.Wiring.{is_wiring};
 ghost use Rattle.nor_bus.specs.Bus.{lane, lanes_of, units_of};
 ghost use Rattle.nor_bus.specs.Driven.{Went, Lost, Counted};
-ghost use Rattle.nor_poll.specs.Buffer.{EachLoad, ReachesAll, BeginsLoad, LosesLoad, ProgramsLoad, AreLoadsBroken, IsLoadPrompt, LoadHalts, DarkensInWords, after_words, load_begin, load_most, last_of};
+ghost use Rattle.nor_poll.specs.Buffer.{EachLoad, ReachesAll, ProgramsLoad, AreLoadsBroken, IsLoadPrompt, LoadHalts, DarkensInWords, DarkensLoading, after_words, load_sent, load_begin, load_most, last_of};
+ghost use Rattle.nor_poll.specs.Reads.{EachSent};
 
 use crate::rest::end_program;
 use crate::word::polling_of;
-use crate::{Command, Halt, LaneSet, broken_lanes, cycles_of, wait_ready, write_cycles};
+use crate::{Command, Halt, LaneSet, broken_lanes, wait_ready, write_command};
 use nor_bus::{Bus, Off, write_code, write_word};
 use nor_cell::{Geometry, Set};
 use nor_word::BusWord;
@@ -54,11 +55,11 @@ fn begin_load<W: BusWord, B: Bus<W>>(
 ) -> Result<(), Off>
     requires some { 1 ≤ length new.now }
     requires few { length new.now ≤ 256 }
-    ensures begins { OnOk result (ReachesAll W.WIDTH g at (length new.now) (B.state bus.old)
-        → EachLoad (map W.bytes new.now) (BeginsLoad set at (length new.now))
+    ensures sent { OnOk result (ReachesAll W.WIDTH g at (length new.now) (B.state bus.old)
+        → EachSent (load_sent set at (length new.now) (map W.bytes new.now))
         (B.state bus.old) (B.state bus.new)) }
-    ensures loses { OnErr result (ReachesAll W.WIDTH g at (length new.now) (B.state bus.old)
-        → EachLoad (map W.bytes new.now) (LosesLoad set at (length new.now))
+    ensures dark { OnErr result (ReachesAll W.WIDTH g at (length new.now) (B.state bus.old)
+        → DarkensLoading set at (length new.now) (map W.bytes new.now)
         (B.state bus.old) (B.state bus.new)) }
     ensures went { OnOk result (Went (load_begin set (length new.now))
         (load_begin set (length new.now)) (B.state bus.old) (B.state bus.new)) }
@@ -66,10 +67,10 @@ fn begin_load<W: BusWord, B: Bus<W>>(
         (B.state bus.old) (B.state bus.new)) }
     ensures small { OnOk result (units_of (B.state bus.new) ≤ 2 ^ 27) }
 {
-    write_cycles::<W, B>(bus, g, at, cycles_of(set, Command::LoadBuffer))?;
+    write_command::<W, B>(set, bus, g, at, Command::LoadBuffer)?;
     write_code::<W, B>(bus, at, (new.len() - 1) as u8)?;
     write_words::<W, B>(bus, g, at, new)?;
-    write_cycles::<W, B>(bus, g, at, cycles_of(set, Command::ConfirmLoad))?;
+    write_command::<W, B>(set, bus, g, at, Command::ConfirmLoad)?;
     Ok(())
 }
 

@@ -3,7 +3,7 @@ ghost use Rattle.nor_cell.specs.Bits.{unit_len};
 ghost use Rattle.nor_cell.specs.Wiring.{is_wiring};
 ghost use Rattle.nor_word.specs.Word.{lane_of};
 ghost use Rattle.nor_bus.specs.Bus.{units_of, lane, lanes_of, wide};
-ghost use Rattle.nor_bus.specs.Driven.{IsOwn, Lost};
+ghost use Rattle.nor_bus.specs.Driven.{IsOwn};
 ghost use Rattle.nor_poll.specs.Reads.{ReadBy, DarkensReading};
 ghost use Rattle.nor_poll.specs.Told.{seen_at};
 ghost use Rattle.nor_poll.specs.Toggles.{is_complement, data_says, TellsDatum};
@@ -75,7 +75,6 @@ pub fn data_poll<W: BusWord, B: Bus<W>>(
     ensures went { OnOk result (ReadBy 1 2 (B.state bus.old) (B.state bus.new)) }
     ensures short { IfOk result (λ watch. (c : ℕ) → seen_at watch.lanes c ≡ Seen.Working
         → ReadBy 2 2 (B.state bus.old) (B.state bus.new)) }
-    ensures lost { OnErr result (Lost 2 (B.state bus.old) (B.state bus.new)) }
     ensures dark { OnErr result (DarkensReading 2 (B.state bus.old) (B.state bus.new)) }
     ensures units { units_of (B.state bus.new) ≡ units_of (B.state bus.old) }
 {

@@ -10,9 +10,7 @@ ghost use Rattle.nor_poll.specs.Erase.{TakesErase, TakesEraseAll, TakesLook, Beg
 ghost use Rattle.nor_poll.specs.declared.codes.Command.TheVariants.{EraseBlock, EraseAll, ShowStatus};
 ghost use Rattle.nor_cell.specs.declared.device.Set.TheVariants.{Amd};
 
-use crate::{
-    Broke, Command, LaneState, Lanes, Polling, Seen, Watch, cycles_of, poll, write_cycles,
-};
+use crate::{Broke, Command, LaneState, Lanes, Polling, Seen, Watch, poll, write_command};
 use nor_bus::{Bus, Off};
 use nor_cell::{Geometry, Set};
 use nor_word::BusWord;
@@ -36,7 +34,7 @@ pub fn erase_start<W: BusWord, B: Bus<W>>(
         → EachLane (DarkensIn at (cycles_for set EraseBlock)) (B.state bus.old) (B.state bus.new)) }
     ensures cycles { Asks (cycle_count set EraseBlock) result (B.state bus.old) (B.state bus.new) }
 {
-    write_cycles::<W, B>(bus, g, at, cycles_of(set, Command::EraseBlock))?;
+    write_command::<W, B>(set, bus, g, at, Command::EraseBlock)?;
     Ok(())
 }
 
@@ -54,7 +52,7 @@ pub fn erase_all_start<W: BusWord, B: Bus<W>>(bus: &mut B, g: Geometry) -> Resul
         → EachLane (DarkensIn 0 (cycles_for Amd EraseAll)) (B.state bus.old) (B.state bus.new)) }
     ensures cycles { Asks (cycle_count Amd EraseAll) result (B.state bus.old) (B.state bus.new) }
 {
-    write_cycles::<W, B>(bus, g, 0, cycles_of(Set::Amd, Command::EraseAll))?;
+    write_command::<W, B>(Set::Amd, bus, g, 0, Command::EraseAll)?;
     Ok(())
 }
 
@@ -130,7 +128,7 @@ pub fn erase_look<W: BusWord, B: Bus<W>>(
     ensures lost { OnErr result (Lost (cycle_count set ShowStatus + look_reads set)
         (B.state bus.old) (B.state bus.new)) }
 {
-    write_cycles::<W, B>(bus, g, at, cycles_of(set, Command::ShowStatus))?;
+    write_command::<W, B>(set, bus, g, at, Command::ShowStatus)?;
     let watch = poll::<W, B>(bus, g, at, erase_polling(set))?;
     Ok(next_lanes(lanes, &watch))
 }

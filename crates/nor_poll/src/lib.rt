@@ -11,9 +11,9 @@
 //! erase of set 0001, which looks past the error of a program. `wait_ready` polls until no lane works.
 //!
 //! The calls of both command sets stand here once, with the set as a parameter: `program_word`,
-//! `program_buffer`, `settle`, `erase_start`, `erase_look`, `suspend`, `resume`, `lock`, `unlock` and
+//! `program_buffer`, `reset`, `settle`, `erase_start`, `erase_look`, `suspend`, `resume`, `lock`, `unlock` and
 //! `is_locked`; set 0002 alone has `erase_all_start`. `cycles_of` is the table of their command cycles, but
-//! for those that resume an erase, and `write_cycles` the one loop that writes them. What a call makes of a
+//! for those that resume an erase, and `write_command` writes them. What a call makes of a
 //! lane is one record in `specs/Word.antt`, `Buffer.antt`, `Rest.antt`, `Erase.antt`, `Suspend.antt`,
 //! `Resume.antt` or `Lock.antt`; what the state of a lane under erase says of its chip is `LaneIs` in
 //! `specs/UnderErase.antt`; `specs/Reads.antt` says what any number of reads make of a chip,
@@ -44,13 +44,13 @@ mod word;
 
 pub use broken::broken_lanes;
 pub use buffer::program_buffer;
-pub use codes::{Command, Cycle, To, cycles_of, write_cycles};
+pub use codes::{Command, Cycle, To, write_command};
 pub use data::data_poll;
 pub use erase::{erase_all_start, erase_look, erase_start};
 pub use lanes::{Halt, LaneSet, LaneState, Lanes};
 pub use locks::{is_locked, lock, unlock};
 pub use polling::{Polling, poll};
-pub use rest::settle;
+pub use rest::{reset, settle};
 pub use resuming::resume;
 pub use status::status_poll;
 pub use suspending::suspend;

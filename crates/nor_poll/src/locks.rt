@@ -9,7 +9,7 @@ ghost use Rattle.nor_poll.specs.Losing.{LosesNone, DarkensCall};
 ghost use Rattle.nor_poll.specs.Lock.{OffersLocks, SetsLock, LosesLock, TellsLock, SomeLane, lock_command as command_for, lock_unit as unit_of, shows_locked as says_locked};
 ghost use Rattle.nor_poll.specs.declared.codes.Command.TheVariants.{LockBlock, UnlockBlock, ShowLocks, LeaveLocks};
 
-use crate::{Command, cycles_of, write_cycles};
+use crate::{Command, write_command};
 use nor_bus::{Bus, Off, lane_bytes, read_word};
 use nor_cell::{Device, Geometry, Set};
 use nor_word::{BusWord, lane_get};
@@ -42,8 +42,8 @@ fn set_lock<W: BusWord, B: Bus<W>>(
     ensures cycles { Asks (cycle_count set (command_for locked) + cycle_count set LeaveLocks) result
         (B.state bus.old) (B.state bus.new) }
 {
-    write_cycles::<W, B>(bus, g, at, cycles_of(set, lock_command(locked)))?;
-    write_cycles::<W, B>(bus, g, at, cycles_of(set, Command::LeaveLocks))?;
+    write_command::<W, B>(set, bus, g, at, lock_command(locked))?;
+    write_command::<W, B>(set, bus, g, at, Command::LeaveLocks)?;
     Ok(())
 }
 
@@ -148,8 +148,8 @@ pub fn is_locked<W: BusWord, B: Bus<W>>(
     ensures cycles { Asks (cycle_count set ShowLocks + 1 + cycle_count set LeaveLocks) result
         (B.state bus.old) (B.state bus.new) }
 {
-    write_cycles::<W, B>(bus, g, at, cycles_of(set, Command::ShowLocks))?;
+    write_command::<W, B>(set, bus, g, at, Command::ShowLocks)?;
     let word = read_word::<W, B>(bus, lock_address(set, g.device, at))?;
-    write_cycles::<W, B>(bus, g, at, cycles_of(set, Command::LeaveLocks))?;
+    write_command::<W, B>(set, bus, g, at, Command::LeaveLocks)?;
     Ok(is_any_locked(set, g, word))
 }

@@ -2,7 +2,7 @@
 ghost use Rattle.std.specs.Prelude.{◌≡◌, ◌<◌, ◌≤◌, ℕ, IsTrue, IfOk, OnOk, OnErr};
 ghost use Rattle.nor_cell.specs.Wiring.{is_wiring};
 ghost use Rattle.nor_bus.specs.Bus.{units_of, lane, lanes_of};
-ghost use Rattle.nor_bus.specs.Driven.{IsOwn, Lost};
+ghost use Rattle.nor_bus.specs.Driven.{IsOwn};
 ghost use Rattle.nor_poll.specs.Reads.{ReadBy, DarkensReading};
 ghost use Rattle.nor_poll.specs.Told.{seen_at, ToldAt};
 ghost use Rattle.nor_poll.specs.Polled.{Answers, working_reads, most_reads, InTime, viewed, set_polling as polling_of};
@@ -59,7 +59,6 @@ pub fn poll<W: BusWord, B: Bus<W>>(
     ensures late { OnOk result (IsOwn W.WIDTH g (B.state bus.old) → at < units_of (B.state bus.old)
         → ((c : ℕ) → c < lanes_of (B.state bus.old) → Answers W.bytes how at c (lane (B.state bus.old) c))
         → InTime how (B.state bus.old) (B.state bus.new)) }
-    ensures lost { OnErr result (Lost (most_reads how) (B.state bus.old) (B.state bus.new)) }
     ensures dark { OnErr result (DarkensReading (most_reads how) (B.state bus.old) (B.state bus.new)) }
     ensures units { units_of (B.state bus.new) ≡ units_of (B.state bus.old) }
 {

@@ -7,7 +7,7 @@ ghost use Rattle.nor_poll.specs.declared.codes.Command.TheVariants.{ClearErrors,
 ghost use Rattle.nor_poll.specs.Rest.{Resets, Settles, SettlesUnbroken};
 ghost use Rattle.nor_poll.specs.Losing.{LosesNone, DarkensResting};
 
-use crate::{Command, LaneSet, Lanes, cycles_of, write_cycles};
+use crate::{Command, LaneSet, Lanes, write_command};
 use nor_bus::{Bus, Off};
 use nor_cell::{Geometry, Set};
 use nor_word::BusWord;
@@ -32,27 +32,28 @@ pub fn end_program<W: BusWord, B: Bus<W>>(
         (B.state bus.old) (B.state bus.new)) }
 {
     if broken.bits == 0 {
-        write_cycles::<W, B>(bus, g, at, cycles_of(set, Command::ShowArray))?;
+        write_command::<W, B>(set, bus, g, at, Command::ShowArray)?;
         return Ok(());
     }
     settle_at::<W, B>(set, bus, g, at)
 }
 
-// Lets every lane show its array, but for a held block. The errors of set 0001 stay: the begin of a program
-// and of an erase clears them.
-pub fn reset_at<W: BusWord, B: Bus<W>>(
-    set: Set,
-    bus: &mut B,
-    g: Geometry,
-    at: u32,
-) -> Result<(), Off>
+/// Lets every lane show its array, but for a block whose erase is held. Errors of set 0001 stay: what begins
+/// a program or an erase clears them.
+///
+/// What it does to a lane holds where `g` is the bus's own wiring, the bus has the address, and the lane's
+/// chip is of the set, at rest, and runs no job. `Off` comes only where a cycle failed, and leaves the cells,
+/// locks, held erase and counters of every such chip, but for a block under erase.
+pub fn reset<W: BusWord, B: Bus<W>>(set: Set, bus: &mut B, g: Geometry, at: u32) -> Result<(), Off>
     ensures lanes { OnOk result (Reaches W.WIDTH g at (B.state bus.old)
         → EachLane (Resets set) (B.state bus.old) (B.state bus.new)) }
     ensures dark { OnErr result (Reaches W.WIDTH g at (B.state bus.old)
         → EachLane (DarkensIn at (cycles_for set Reset)) (B.state bus.old) (B.state bus.new)) }
+    ensures loses { OnErr result (Reaches W.WIDTH g at (B.state bus.old)
+        → EachLane (LosesNone (AtRest set)) (B.state bus.old) (B.state bus.new)) }
     ensures cycles { Asks (cycle_count set Reset) result (B.state bus.old) (B.state bus.new) }
 {
-    write_cycles::<W, B>(bus, g, at, cycles_of(set, Command::Reset))?;
+    write_command::<W, B>(set, bus, g, at, Command::Reset)?;
     Ok(())
 }
 
@@ -71,7 +72,7 @@ pub fn settle_at<W: BusWord, B: Bus<W>>(
         → EachLane (LosesNone (AtRest set)) (B.state bus.old) (B.state bus.new)) }
     ensures cycles { Asks (cycle_count set ClearErrors) result (B.state bus.old) (B.state bus.new) }
 {
-    write_cycles::<W, B>(bus, g, at, cycles_of(set, Command::ClearErrors))?;
+    write_command::<W, B>(set, bus, g, at, Command::ClearErrors)?;
     Ok(())
 }
 

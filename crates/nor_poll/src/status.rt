@@ -4,7 +4,7 @@ ghost use Rattle.nor_cell.specs.Wiring.{is_wiring};
 ghost use Rattle.nor_word.specs.Word.{lane_of};
 ghost use Rattle.nor_bus.specs.Bus.{units_of, lane, lanes_of, fails, IsWired};
 ghost use Rattle.nor_bus.specs.Cycles.{BusFails};
-ghost use Rattle.nor_bus.specs.Driven.{IsOwn, Went, Lost};
+ghost use Rattle.nor_bus.specs.Driven.{IsOwn, Went};
 ghost use Rattle.nor_poll.specs.Reads.{ReadBy, DarkensReading};
 ghost use Rattle.nor_poll.specs.Told.{seen_at, TellsStatus, TellsErase};
 ghost use Rattle.nor_poll.specs.Register.{status_says, heeded};
@@ -65,7 +65,6 @@ pub fn status_poll<W: BusWord, B: Bus<W>>(bus: &mut B, g: Geometry, at: u32) -> 
         → seen_at watch.lanes c ≡ Seen.Ready) }
     ensures went { OnOk result (Went 1 1 (B.state bus.old) (B.state bus.new)) }
     ensures read { OnOk result (ReadBy 1 1 (B.state bus.old) (B.state bus.new)) }
-    ensures lost { OnErr result (Lost 1 (B.state bus.old) (B.state bus.new)) }
     ensures dark { OnErr result (DarkensReading 1 (B.state bus.old) (B.state bus.new)) }
     ensures fails { OnErr result (BusFails (B.state bus.old) (B.state bus.new)) }
     ensures off { IsErr result ↔ (fails (B.state bus.old) ≡ true) }
@@ -86,7 +85,6 @@ pub fn erase_poll<W: BusWord, B: Bus<W>>(bus: &mut B, g: Geometry, at: u32) -> R
     ensures past { IfOk result (λ watch. (c : ℕ) → g.lanes ≤ c
         → seen_at watch.lanes c ≡ Seen.Ready) }
     ensures read { OnOk result (ReadBy 1 1 (B.state bus.old) (B.state bus.new)) }
-    ensures lost { OnErr result (Lost 1 (B.state bus.old) (B.state bus.new)) }
     ensures dark { OnErr result (DarkensReading 1 (B.state bus.old) (B.state bus.new)) }
     ensures units { units_of (B.state bus.new) ≡ units_of (B.state bus.old) }
 {

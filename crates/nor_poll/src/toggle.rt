@@ -3,7 +3,7 @@ ghost use Rattle.nor_cell.specs.Bits.{unit_len};
 ghost use Rattle.nor_cell.specs.Wiring.{is_wiring};
 ghost use Rattle.nor_word.specs.Word.{lane_of};
 ghost use Rattle.nor_bus.specs.Bus.{units_of, lane, lanes_of, IsWired};
-ghost use Rattle.nor_bus.specs.Driven.{IsOwn, Lost, AllLanes};
+ghost use Rattle.nor_bus.specs.Driven.{IsOwn, AllLanes};
 ghost use Rattle.nor_poll.specs.Reads.{ReadBy, DarkensReading, TwoOrLate};
 ghost use Rattle.nor_poll.specs.Told.{seen_at};
 ghost use Rattle.nor_poll.specs.Toggles.{toggles, fault_says, works_or_says, works_on, shows_held, pair_says, over_says, ShowsToggle, TellsToggle};
@@ -133,7 +133,6 @@ pub fn toggle_poll<W: BusWord, B: Bus<W>>(bus: &mut B, g: Geometry, at: u32) -> 
     ensures late { OnOk result (IsOwn W.WIDTH g (B.state bus.old) → at < units_of (B.state bus.old)
         → AllLanes (ShowsToggle at) (B.state bus.old)
         → TwoOrLate (B.state bus.old) (B.state bus.new)) }
-    ensures lost { OnErr result (Lost 3 (B.state bus.old) (B.state bus.new)) }
     ensures dark { OnErr result (DarkensReading 3 (B.state bus.old) (B.state bus.new)) }
     ensures units { units_of (B.state bus.new) ≡ units_of (B.state bus.old) }
 {

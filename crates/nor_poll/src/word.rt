@@ -1,16 +1,14 @@
 //! Programming one bus word, by the commands of either set.
-ghost use Rattle.std.specs.Prelude.{◌≡◌, ◌+◌, ℕ, IsTrue, IfOk, IfErr, OnOk, OnErr};
+ghost use Rattle.std.specs.Prelude.{◌≡◌, ℕ, IsTrue, IfOk, IfErr, OnOk, OnErr};
 ghost use Rattle.nor_cell.specs.Wiring.{is_wiring};
 ghost use Rattle.nor_bus.specs.Driven.{Went, Lost, Reaches, Counted, EachPart};
-ghost use Rattle.nor_poll.specs.Codes.{cycle_count};
-ghost use Rattle.nor_poll.specs.declared.codes.Command.TheVariants.{ProgramWord};
 ghost use Rattle.nor_poll.specs.Polled.{polling_for};
 ghost use Rattle.nor_poll.specs.Reads.{EachSent};
-ghost use Rattle.nor_poll.specs.Word.{BeginsWord, ProgramsWord, LosesWord, AreBroken, IsPrompt, WordHalts, DarkensSending, word_sent, word_most};
+ghost use Rattle.nor_poll.specs.Word.{ProgramsWord, AreBroken, IsPrompt, WordHalts, DarkensSending, word_sent, word_begin, word_most};
 
 use crate::polling::set_polling;
 use crate::rest::end_program;
-use crate::{Command, Halt, LaneSet, Polling, broken_lanes, cycles_of, wait_ready, write_cycles};
+use crate::{Command, Halt, LaneSet, Polling, broken_lanes, wait_ready, write_command};
 use nor_bus::{Bus, Off, write_word};
 use nor_cell::{Geometry, Set};
 use nor_word::BusWord;
@@ -23,20 +21,14 @@ fn begin_word<W: BusWord, B: Bus<W>>(
     at: u32,
     new: W,
 ) -> Result<(), Off>
-    ensures begins { OnOk result (Reaches W.WIDTH g at (B.state bus.old)
-        → EachPart (W.bytes new) (BeginsWord set at) (B.state bus.old) (B.state bus.new)) }
-    ensures loses { OnErr result (Reaches W.WIDTH g at (B.state bus.old)
-        → EachPart (W.bytes new) (LosesWord set at) (B.state bus.old) (B.state bus.new)) }
     ensures sent { OnOk result (Reaches W.WIDTH g at (B.state bus.old)
         → EachSent (word_sent set at (W.bytes new)) (B.state bus.old) (B.state bus.new)) }
     ensures dark { OnErr result (Reaches W.WIDTH g at (B.state bus.old)
         → DarkensSending set at (B.state bus.old) (B.state bus.new)) }
-    ensures went { OnOk result (Went (cycle_count set ProgramWord + 1) (cycle_count set ProgramWord + 1)
-        (B.state bus.old) (B.state bus.new)) }
-    ensures lost { OnErr result (Lost (cycle_count set ProgramWord + 1)
-        (B.state bus.old) (B.state bus.new)) }
+    ensures went { OnOk result (Went (word_begin set) (word_begin set) (B.state bus.old) (B.state bus.new)) }
+    ensures lost { OnErr result (Lost (word_begin set) (B.state bus.old) (B.state bus.new)) }
 {
-    write_cycles::<W, B>(bus, g, at, cycles_of(set, Command::ProgramWord))?;
+    write_command::<W, B>(set, bus, g, at, Command::ProgramWord)?;
     write_word::<W, B>(bus, at, new)?;
     Ok(())
 }

@@ -1,11 +1,9 @@
 -- One chip that is asked, and the word of several.
-use Rattle.std.proofs.Common.{Result, Ok, Err, OnErr, ◌≡◌, ◌<◌, ◌%◌, ℕ, List, length, sym, ap, subst, ◌∙◌, arith}
+use Rattle.std.proofs.Common.{◌≡◌, ◌<◌, ◌%◌, ℕ, List, length, sym, ap, subst, ◌∙◌, arith}
 use Rattle.nor_cell.specs.Bits.{unit_len, AreBytes}
 use Rattle.nor_cell.specs.Chip.{ChipState}
 use Rattle.nor_cell.specs.Shown.{query_at}
 use Rattle.nor_cell.specs.Steps.{Reads, written}
-use Rattle.nor_cell.specs.declared.device.Device.{Device}
-use Rattle.nor_cell.specs.declared.device.Device.TheVariants.{X8, X16, X16Byte}
 use Rattle.nor_cell.proofs.Between.{resets, enters_query, reads_query}
 use Rattle.nor_word.specs.Word.{lane_of}
 use Rattle.nor_bus.specs.Bus.{BusState, IsWired, lane, lanes_of, wide}
@@ -47,8 +45,3 @@ query_is width bus new u word wired shows size small reads =
     let is = shows c below in
     let answer : lane_of (wide (lane bus c)) word c ≡ query_at (lane bus c).part u = (reads_query (lane bus c) (lane new c) u _ is.mode is.job is.fault (reads c below)).1 in
     subst (λ (d : ℕ). lane_of d word c ≡ query_at (lane bus c).part u) (ap unit_len (bank.devices c below)) answer)
-
--- a fact after an error
-pub on_err : {T E : Type 0} (r : Result T E) (P : Type 0) → P → OnErr r P
-on_err (Ok x) P p = tt
-on_err (Err e) P p = p

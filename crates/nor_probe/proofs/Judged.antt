@@ -36,8 +36,8 @@ clash o x none some = let both : None ≡ Some x = sym none ∙ some in cc
 
 -- ---- cycles, and the reset at the end
 
-pub counted_more : (m n q : ℕ) (a b c : BusState) → m + n ≤ q → Counted 0 m a b → Went n n b c → Counted 0 q a c
-counted_more m n q a b c fits first went = counted_then 0 m n n 0 q a b c (omega arith) fits first (counted_exactly n b c went)
+pub counted_more : (m n k q : ℕ) (a b c : BusState) → k ≤ n → m + n ≤ q → Counted 0 m a b → Went n n b c → Counted k q a c
+counted_more m n k q a b c some fits first went = counted_then 0 m n n k q a b c (omega arith) fits first (counted_exactly n b c went)
 
 pub reset_last : (m : ℕ) (old now new : BusState) → Counted 0 m old now → EachLane Rests old now → EachLane Resets now new → EachLane Resets old new
 reset_last m old now new counted rests resets = λ c below.

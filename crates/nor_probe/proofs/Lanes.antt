@@ -2,7 +2,7 @@
 use Rattle.std.proofs.Common.{◌≡◌, ◌≢◌, ◌<◌, ◌+◌, ◌*◌, ◌/◌, ◌%◌, ◌∙◌, ◌⊎◌, inl, inr, ◌==◌, ◌&&◌, if◌then◌else◌, ℕ, zero, suc, List, [], ◌∷◌, ◌++◌, length, slice_index, refl, ap, arith, Bool, true, false, eq-eqb}
 use Rattle.std.proofs.lemmas.Bool.{cases_eq}
 use Rattle.std.proofs.Math.Nat.{mod-eq_of_lt}
-use Rattle.nor_cell.proofs.Logic.{both_pass, same_number}
+use Rattle.nor_cell.proofs.Logic.{both_pass, same_number, not_passed}
 use Rattle.nor_cell.specs.Bits.{unit_len, unit_bytes}
 use Rattle.nor_cell.specs.Chip.{ChipState}
 use Rattle.nor_cell.specs.declared.device.Device.{Device}
@@ -103,10 +103,6 @@ each_reads d (suc n) v word is c below =
     this_or_earlier x y here same (inl is) earlier = same is ∙ same_number y v here
     this_or_earlier x y here same (inr less) earlier = earlier less
 
-not_true : (b : Bool) → (b ≡ true → ⊥) → b ≡ false
-not_true true never = absurd (never refl)
-not_true false never = refl
-
 -- A lane that doesn't is enough.
 pub one_hides : (d n v : ℕ) (word : List ℕ) (c : ℕ) → c < n → lane_of d word c ≢ v → lanes_read d n word v ≡ false
-one_hides d n v word c below differs = not_true (lanes_read d n word v) (λ is. differs (each_reads d n v word is c below))
+one_hides d n v word c below differs = not_passed (lanes_read d n word v) (λ is. differs (each_reads d n v word is c below))

@@ -15,6 +15,7 @@ use Rattle.nor_lane.specs.Candidates.{wiring, candidates_of}
 use Rattle.nor_probe.specs.Found.{query_address, shows_at, shows_qry, found_geometry}
 use Rattle.nor_probe.specs.WellWired.{HasQry}
 use Rattle.nor_probe.proofs.Lanes.{said, second_byte, all_read, one_hides}
+use Rattle.nor_cell.proofs.Logic.{all_three}
 
 -- ---- what a chip says where its own wiring reads its table
 
@@ -58,9 +59,6 @@ letter_own : (device : Device) (chips : List ChipState) (n v : ℕ) → ShowQry 
 letter_own device chips n v show above below letters =
     all_read (unit_len device) (length chips) v (query_word chips (query_address device n))
     (λ c less. lane_says device chips (query_address device n) c show less ∙ (table_at device (chip_at chips c).part n (show.devices c less) above below ∙ letters c less))
-
-all_three : (q r y : Bool) → q ≡ true → r ≡ true → y ≡ true → (q && r && y) ≡ true
-all_three q r y one two three = ap (λ (b : Bool). b && r && y) one ∙ (ap (λ (b : Bool). b && y) two ∙ three)
 
 own_shows : (device : Device) (chips : List ChipState) → ShowQry device chips → shows_qry (wiring (length chips) device) chips ≡ true
 own_shows device chips show =

@@ -261,4 +261,4 @@ next_counted g n old now new table so below went =
 pub read_lost : (g : Geometry) (n : ℕ) (old now new : BusState) (table : List ℕ) → ReadSoFar g n old now table → n < 512 → Lost 1 now new → Lost 501 old new
 read_lost g n old now new table so below lost =
     let few = few_before g.device n below in
-    lost_then (reads_before g.device n) (reads_before g.device n) 1 501 old now new (omega (arith, few)) so.went lost
+    lost_then (reads_before g.device n) 1 501 old now new (omega (arith, few)) so.went lost

@@ -37,6 +37,11 @@ pub record IsFoundBy (g : Geometry) (table : List ℕ) (found : Found) : Type 0 
       (in_order (is_reversed found.query.extended found.query.minor (length found.query.regions.items)) found.query.regions.items)
   pub blocks : spans_of found.map ≡ map (scaled_span g.lanes) (table_blocks table)
 
+-- Some table says it.
+pub record IsOfTable (found : Found) : Type 0 where
+  pub table : List ℕ
+  pub says : IsFoundBy found.geometry table found
+
 -- What is found on a bank: the first wiring that it answers to, and what the table says that all lanes show.
 pub record IsFoundOn (width : ℕ) (chips : List ChipState) (found : Found) : Type 0 where
   pub wiring : found_geometry width chips ≡ Some found.geometry

@@ -8,7 +8,7 @@ ghost use Rattle.nor_bus.specs.Bus.{units_of};
 ghost use Rattle.nor_bus.specs.Driven.{Lost, EachLane, AllLanes, Counted};
 ghost use Rattle.nor_query.specs.Checks.{first_error};
 ghost use Rattle.nor_probe.specs.Asking.{Resets, Rests};
-ghost use Rattle.nor_probe.specs.Probed.{refusal, IsCommonTable, IsFoundBy, IsFoundOn};
+ghost use Rattle.nor_probe.specs.Probed.{refusal, IsCommonTable, IsFoundBy, IsFoundOn, IsOfTable};
 ghost use Rattle.nor_probe.specs.WellWired.{IsWellWired, ShowsItself, AllShow, IsOwnFound};
 ghost use Rattle.nor_probe.specs.declared.error.ProbeError.TheVariants.{Query as QueryRefused, Off as LostPower};
 
@@ -95,6 +95,7 @@ pub fn probe<W: BusWord, B: Bus<W>>(bus: &mut B) -> Result<Found, ProbeError>
         → IsFoundOn W.WIDTH (B.state bus.old).lanes found) }
     ensures wiring { IfOk result (λ found.
         IsTrue (is_wiring W.WIDTH found.geometry.lanes found.geometry.device)) }
+    ensures table { IfOk result IsOfTable }
 
     // On a well wired bus.
     ensures shown { (g : Geometry) → IsWellWired W.WIDTH g (B.state bus.old)
@@ -105,7 +106,7 @@ pub fn probe<W: BusWord, B: Bus<W>>(bus: &mut B) -> Result<Found, ProbeError>
         → AllLanes IsIdle (B.state bus.old) → AllShow table (B.state bus.old)
         → first_error table ≡ None → result ≢ Err LostPower → IsOk result }
 
-    ensures counted { result ≢ Err LostPower → Counted 0 524 (B.state bus.old) (B.state bus.new) }
+    ensures counted { result ≢ Err LostPower → Counted 1 524 (B.state bus.old) (B.state bus.new) }
     ensures lanes { result ≢ Err LostPower → EachLane Resets (B.state bus.old) (B.state bus.new) }
     ensures lost { result ≡ Err LostPower → Lost 524 (B.state bus.old) (B.state bus.new) }
     ensures units { units_of (B.state bus.new) ≡ units_of (B.state bus.old) }

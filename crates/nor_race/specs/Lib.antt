@@ -3,4 +3,4 @@ pub mod Laws
 pub mod Teams
 pub mod Places
 pub mod Races
-pub mod Puts
+pub mod Told

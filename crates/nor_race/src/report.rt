@@ -1,16 +1,15 @@
 //! A script that is raced, and its history put.
-ghost use Rattle.std.specs.Prelude.{◌≡◌, ◌≤◌, ◌<◌, List, length, slice_get, true, Some, None, IfOk, IfErr, Err};
+ghost use Rattle.std.specs.Prelude.{◌≡◌, ◌≤◌, ◌<◌, List, length, slice_get, true, Some, None, IfOk, IfErr};
 ghost use Rattle.nor_array.specs.declared.entry.Entry.{Entry};
 ghost use Rattle.nor_bank.specs.Work.{KeepsBank};
 ghost use Rattle.nor_bus.specs.Cycles.{KeepsLanes};
-ghost use Rattle.nor_io.specs.Files.{Rose};
-ghost use Rattle.nor_io.specs.declared.sink.SinkError.TheVariants.{Fault};
 ghost use Rattle.nor_run.specs.Built.{are_built};
-ghost use Rattle.nor_run.specs.Running.{PutsReply, RunsLines, EndsLines, line_of_entry};
+ghost use Rattle.nor_run.specs.Running.{RunsLines, EndsLines};
 ghost use Rattle.nor_run.specs.Scripts.{IsJustLoaded, EndsRun, Reports};
+ghost use Rattle.nor_run.specs.Taking.{Hands, StopsIn};
 ghost use Rattle.nor_script.specs.Script.{IsScript};
-ghost use Rattle.nor_race.specs.Puts.{AreTold, HasHistory, PutsAll, PutsSome};
 ghost use Rattle.nor_race.specs.Teams.{CanRaceLines};
+ghost use Rattle.nor_race.specs.Told.{AreTold, HasHistory, HandsAll};
 
 use crate::gate::Gate;
 use crate::notes::Notes;
@@ -19,49 +18,49 @@ use nor_array::Reply;
 use nor_bank::Bank;
 use nor_bus::{Bus, SimBank};
 use nor_cell::Chip;
-use nor_io::{Sink, SinkError};
-use nor_run::{Ran, RunError, of_put, put_end, put_reply, ran_on, start_bank};
+use nor_io::Sink;
+use nor_run::{Ran, RunError, Taker, hand_over, of_put, put_end, ran_on, start_bank};
 use nor_script::{Line, Script, Word};
 use nor_word::BusWord;
 use std::alloc::Global;
 use std::sync::Wait;
 use std::thread::Threads;
 
-// Puts the entry at position `k`, and gives its reply.
-fn put_note<K: Sink>(lines: &[Line], notes: &Notes, k: u64, out: &mut K) -> Result<Reply, SinkError>
+// Hands over the entry at position `k`, and gives its reply.
+fn hand_note<T: Taker>(
+    lines: &[Line],
+    notes: &Notes,
+    k: u64,
+    taker: &mut T,
+) -> Result<Reply, T::Stop>
     requires history { HasHistory lines.now notes.now }
     requires there { k < length notes.now }
-    ensures puts { (es : List Entry) (e : Entry) → AreTold lines.now notes.now es
-        → slice_get es k ≡ Some e
-        → PutsReply (line_of_entry k e) e.reply (K.state out.old) (K.state out.new) result }
-    ensures fault { result ≡ Err Fault → Rose (K.state out.old).faults (K.state out.new).faults }
-    ensures later { (K.state out.old).faults ≤ (K.state out.new).faults }
+    ensures { (es : List Entry) (e : Entry) → AreTold lines.now notes.now es
+        → slice_get es k ≡ Some e → Hands T.takes k e taker.old taker.new result }
 {
     let note = notes.note(k);
     let line = &lines[note.line as usize];
     match &line.word {
-        Word::Call(op) => put_reply(out, k, line.caller, op, note.reply, &note.bytes),
+        Word::Call(op) => hand_over(taker, k, line.caller, op, note.reply, &note.bytes),
         Word::Erase { .. } => unreachable!(),
         Word::EraseAll => unreachable!(),
     }
 }
 
-// Puts the entries, in the order of the history.
-fn put_notes<K: Sink>(lines: &[Line], notes: &Notes, out: &mut K) -> Result<Ran, SinkError>
+// Hands over the entries, in the order of the history.
+fn hand_notes<T: Taker>(lines: &[Line], notes: &Notes, taker: &mut T) -> Result<Ran, T::Stop>
     requires history { HasHistory lines.now notes.now }
     ensures whole { IfOk result (λ ran. (es : List Entry) → AreTold lines.now notes.now es
-        → PutsAll es (K.state out.old) (K.state out.new) ran) }
-    ensures part { IfErr result (λ _. (es : List Entry) → AreTold lines.now notes.now es
-        → PutsSome es (K.state out.old) (K.state out.new)) }
-    ensures fault { result ≡ Err Fault → Rose (K.state out.old).faults (K.state out.new).faults }
-    ensures later { (K.state out.old).faults ≤ (K.state out.new).faults }
+        → HandsAll T.takes es taker.old taker.new ran) }
+    ensures part { IfErr result (λ stop. (es : List Entry) → AreTold lines.now notes.now es
+        → StopsIn T.takes es taker.old taker.new stop) }
 {
     let mut ran = Ran {
         entries: 0,
         halted: false,
     };
     for k in 0..notes.count() {
-        let reply = put_note(lines, notes, k, out)?;
+        let reply = hand_note(lines, notes, k, taker)?;
         ran = ran_on(ran, reply);
     }
     Ok(ran)
@@ -93,7 +92,7 @@ fn race_and_put<
     match race_lines(rt, alloc, bank, script, gate) {
         Ok(raced) => {
             let Raced { bank, notes } = raced;
-            let ran = put_notes(script.lines(), &notes, out);
+            let ran = hand_notes(script.lines(), &notes, out);
             (bank, of_put(ran))
         }
         Err((bank, _)) => (bank, Err(RunError::NoMemory)),

@@ -22,17 +22,14 @@ use Rattle.nor_run.specs.Causes.{is_cut, has_cut, has_stuck, MayHalt}
 use Rattle.nor_run.specs.Scripts.{HasLetters, started, opening_of, RunsLegally, Reports}
 use Rattle.nor_run.specs.declared.error.RunError.{RunError}
 use Rattle.nor_run.specs.declared.lines.Ran.{Ran}
-
-both_off : (x y : Bool) → (x || y) ≡ false → (x ≡ false) × (y ≡ false)
-both_off false y none = (refl, none)
-both_off true y none = absurd (let z = none in cc)
+use Rattle.nor_cell.proofs.Logic.{none_pass}
 
 -- ---- lines without a cut are answered by entries that arm none
 
 any_none : {A : Type 0} (test : A → Bool) (xs ys : List A) → list_any test xs ≡ false → list_any test ys ≡ false → list_any test (xs ++ ys) ≡ false
 any_none test [] ys front back = back
 any_none test (x ∷ xs) ys front back =
-    let split = both_off (test x) (list_any test xs) front in
+    let split = none_pass (test x) (list_any test xs) front in
     neither (test x) (list_any test (xs ++ ys)) split.0 (any_none test xs ys split.1 back)
 
 -- an entry of a call that arms none
@@ -58,7 +55,7 @@ word_arms_none EraseAll caller (e ∷ close ∷ more ∷ es) answers uncut = abs
 lines_arm_none : (lines : List Line) (es : List Entry) → AnswersLines lines es → has_cut lines ≡ false → has_arming es ≡ false
 lines_arm_none [] es answers uncut = ap has_arming answers
 lines_arm_none (line ∷ lines) es answers uncut =
-    let split = both_off (is_cut line.word) (has_cut lines) uncut in
+    let split = none_pass (is_cut line.word) (has_cut lines) uncut in
     ap has_arming answers.2
     ∙ any_none (λ (e : Entry). is_arming e.op) answers.0 answers.1
     (word_arms_none line.word line.caller answers.0 answers.3 split.0) (lines_arm_none lines answers.1 answers.4 split.1)
@@ -71,7 +68,7 @@ kept_uncut line lines false first rest = rest
 by_uncut : (caller : ℕ) (lines : List Line) → has_cut lines ≡ false → has_cut (lines_by caller lines) ≡ false
 by_uncut caller [] uncut = refl
 by_uncut caller (line ∷ lines) uncut =
-    let split = both_off (is_cut line.word) (has_cut lines) uncut in
+    let split = none_pass (is_cut line.word) (has_cut lines) uncut in
     kept_uncut line (lines_by caller lines) (line.caller == caller) split.0 (by_uncut caller lines split.1)
 
 -- each entry is of some caller
@@ -80,7 +77,7 @@ callers_arm_none : (es : List Entry) → All (λ e. 0 < e.caller) es
 callers_arm_none [] some each = refl
 callers_arm_none (e ∷ es) some each =
     neither (is_arming e.op) (has_arming es)
-    (both_off (is_arming e.op) (has_arming (entries_by e.caller es)) (of_own (e.caller == e.caller) (same_number e.caller) (each e.caller (All-head (λ (x : Entry). 0 < x.caller) e es some)))).0
+    (none_pass (is_arming e.op) (has_arming (entries_by e.caller es)) (of_own (e.caller == e.caller) (same_number e.caller) (each e.caller (All-head (λ (x : Entry). 0 < x.caller) e es some)))).0
     (callers_arm_none es (All-tail (λ (x : Entry). 0 < x.caller) e es some) (λ caller positive. of_others caller (e.caller == caller) (each caller positive)))
   where
     same_number : (n : ℕ) → (n == n) ≡ true
@@ -91,7 +88,7 @@ callers_arm_none (e ∷ es) some each =
     of_own false is none = absurd (let x = is in cc)
 
     of_others : (caller : ℕ) (b : Bool) → has_arming (cond b (e ∷ entries_by caller es) (entries_by caller es)) ≡ false → has_arming (entries_by caller es) ≡ false
-    of_others caller true none = (both_off (is_arming e.op) (has_arming (entries_by caller es)) none).1
+    of_others caller true none = (none_pass (is_arming e.op) (has_arming (entries_by caller es)) none).1
     of_others caller false none = none
 
 answers_arm_none : (race : Bool) (lines : List Line) (es : List Entry) → Answers race lines es → has_cut lines ≡ false → has_arming es ≡ false
@@ -107,8 +104,8 @@ answers_arm_none true lines es answers uncut =
 
 none_stuck : (chips : List ChipState) → has_stuck chips ≡ false → (k : ℕ) → slice_index_or (map (λ (s : ChipState). s.part.stuck) chips) k false ≡ false
 none_stuck [] none k = refl
-none_stuck (s ∷ chips) none zero = (both_off s.part.stuck (has_stuck chips) none).0
-none_stuck (s ∷ chips) none (suc k) = none_stuck chips (both_off s.part.stuck (has_stuck chips) none).1 k
+none_stuck (s ∷ chips) none zero = (none_pass s.part.stuck (has_stuck chips) none).0
+none_stuck (s ∷ chips) none (suc k) = none_stuck chips (none_pass s.part.stuck (has_stuck chips) none).1 k
 
 legally_caused : (race : Bool) (lines : List Line) (old new : BusState) (found : Found) (es : List Entry) → RunsLegally old new found es
     → Answers race lines es → has_halt es ≡ true → MayHalt lines old.lanes

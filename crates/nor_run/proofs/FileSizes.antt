@@ -9,7 +9,7 @@ use Rattle.nor_query.specs.Derived.{keeps_locks, table_blocks}
 use Rattle.nor_bus.specs.Bus.{BusState, chip_at, lanes_of}
 use Rattle.nor_bus.specs.Cycles.{KeepsLanes}
 use Rattle.nor_bus.specs.Driven.{EachLane}
-use Rattle.nor_bank.specs.Programs.{Lasts}
+use Rattle.nor_bank.specs.Work.{StaysFiled}
 use Rattle.nor_cell.specs.declared.device.Set.{Set}
 use Rattle.nor_image.specs.Image.{is_size_by, kept_locks}
 use Rattle.nor_image.specs.Written.{number_bytes, place_bytes, lock_bytes, kept_bytes, kept_of, record_bytes, records_bytes, header_bytes, bank_set, file_of, AreStorable, AgreeOnLocks}
@@ -82,8 +82,8 @@ file_length width old new some keeps =
     omega (arith, records, named, after, before, heads)
 
 -- Lanes that agree on their locks go on to, where no lock changes.
-pub still_agree : (old new : BusState) → 0 < lanes_of old → lanes_of new ≡ lanes_of old → EachLane Lasts old new → AgreeOnLocks old.lanes → AgreeOnLocks new.lanes
-still_agree old new some count lasts agree c d below_c below_d as_many =
+pub still_agree : (old new : BusState) → 0 < lanes_of old → lanes_of new ≡ lanes_of old → EachLane StaysFiled old new → AgreeOnLocks old.lanes → AgreeOnLocks new.lanes
+still_agree old new some count stays agree c d below_c below_d as_many =
     is c below_c ∙ (agree c d (at c below_c) (at d below_d) (sym (ap length (is c below_c)) ∙ (as_many ∙ ap length (is d below_d))) ∙ sym (is d below_d))
   where
     at : (k : ℕ) → k < length new.lanes → k < length old.lanes
@@ -92,8 +92,8 @@ still_agree old new some count lasts agree c d below_c below_d as_many =
     -- what a lane keeps is as it was
     is : (k : ℕ) → k < length new.lanes → kept_of (bank_set new.lanes) (chip_at new.lanes k) ≡ kept_of (bank_set old.lanes) (chip_at old.lanes k)
     is k below =
-        let each = lasts k (at k below) in
-        let first = lasts 0 some in
+        let each = stays k (at k below) in
+        let first = stays 0 some in
         λ i. kept_locks (set_of (first.part i).table) (each.part i).table (each.locks i)
 
 -- A bank that a file can store goes on to be one.

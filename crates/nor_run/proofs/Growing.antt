@@ -1,13 +1,11 @@
 -- A history that grows, line by line.
-use Rattle.std.proofs.Common.{◌≡◌, ◌<◌, ◌≤◌, ◌+◌, ◌∙◌, ◌||◌, ◌&&◌, IfOk, IfErr, ◌++◌, ◌∷◌, ℕ, zero, suc, List, [], length, take, get_or, slice_index_or, Bool, true, false, Result, Ok, Err, refl, sym, ap, subst, arith, append_assoc, append-nil}
+use Rattle.std.proofs.Common.{◌≡◌, ◌<◌, ◌≤◌, ◌+◌, ◌∙◌, ◌||◌, ◌&&◌, IfOk, IfErr, ◌++◌, ◌∷◌, ℕ, zero, suc, List, [], length, take, get_or, slice_index_or, Bool, true, false, None, Result, Ok, Err, refl, sym, ap, subst, arith}
 use Rattle.std.proofs.lemmas.List.{length-append, take_all}
 use Rattle.std.proofs.Math.Bool.{or-false}
 use Rattle.std.proofs.Math.Seq.{take-suc}
-use Rattle.nor_io.specs.Files.{SinkState, Rose, Appends, AppendsPart}
+use Rattle.nor_io.specs.Files.{SinkState}
 use Rattle.nor_io.specs.declared.sink.SinkError.{SinkError}
 use Rattle.nor_io.specs.declared.sink.SinkError.TheVariants.{Fault, NoMemory}
-use Rattle.nor_io.proofs.Pieces.{Appends-append, AppendsPart-append}
-use Rattle.nor_io.proofs.Putting.{nothing_put}
 use Rattle.nor_cell.specs.Chip.{Part}
 use Rattle.nor_bus.specs.Bus.{lanes_of}
 use Rattle.nor_bus.specs.Driven.{EachLane}
@@ -22,34 +20,26 @@ use Rattle.nor_array.proofs.Histories.{after_last, legal_more}
 use Rattle.nor_array.proofs.Unlocked.{range_locks}
 use Rattle.nor_array.specs.Entries.{IsOf, is_halt, has_halt}
 use Rattle.nor_script.specs.Answering.{AnswersWord, AnswersRun}
-use Rattle.nor_script.specs.Report.{entry_lines}
 use Rattle.nor_script.specs.declared.line.Line.{Line}
 use Rattle.nor_script.specs.declared.line.Word.{Word}
 use Rattle.nor_script.specs.declared.line.Word.TheVariants.{Call, Erase, EraseAll as EraseAllLine}
 use Rattle.nor_script.proofs.Answered.{answers_line, answers_more}
 use Rattle.nor_bank.specs.Calls.{MakesEntry, facts_of}
-use Rattle.nor_bank.specs.Programs.{Lasts}
+use Rattle.nor_bank.proofs.Keeping.{stays_self, stays_on}
 use Rattle.nor_bank.proofs.Lasting.{facts_last}
 use Rattle.nor_bank.specs.Stands.{Stands}
 use Rattle.nor_bank.specs.State.{BankState}
-use Rattle.nor_bank.specs.Work.{IsBuilt, CanCall, KeepsBank}
+use Rattle.nor_bank.specs.Work.{StandsClosed, StaysFiled, KeepsBank}
 use Rattle.nor_run.specs.Built.{is_built_call, is_built_word, are_built}
-use Rattle.nor_run.specs.Running.{PutsReply, RunsCall, RunsWord, Leads, IsHistoryOf, RunsWhole, RunsPart, RunsLines, EndsLines, line_of_entry}
+use Rattle.nor_run.specs.Running.{RunsCall, RunsWord, Leads, IsHistoryOf, RunsWhole, RunsPart, RunsLines, EndsLines}
 use Rattle.nor_run.specs.Started.{of_put}
+use Rattle.nor_run.specs.Taking.{told, Takes, TakesAll, PutsBy}
 use Rattle.nor_run.specs.declared.error.RunError.{RunError}
+use Rattle.nor_run.specs.declared.error.RunError.TheVariants.{Put}
 use Rattle.nor_run.specs.declared.lines.Ran.{Ran}
-use Rattle.nor_bank.proofs.Standing.{lasts_on, lasts_self}
+use Rattle.nor_run.proofs.Taking.{takes_more, by_state, took_later, stops_later, stops_rose}
 
 -- ---- lists
-
-pub lines_last : (position : ℕ) (es : List Entry) (e : Entry) → entry_lines position (es ++ e ∷ []) ≡ entry_lines position es ++ line_of_entry (position + length es) e
-lines_last position [] e =
-    let here : position ≡ position + 0 = omega arith in
-    append-nil (line_of_entry position e) ∙ ap (λ (n : ℕ). line_of_entry n e) here
-lines_last position (x ∷ es) e =
-    let there : position + 1 + length es ≡ position + suc (length es) = omega arith in
-    ap (λ (t : List ℕ). line_of_entry position x ++ t) (lines_last (position + 1) es e ∙ ap (λ (n : ℕ). entry_lines (position + 1) es ++ line_of_entry n e) there)
-    ∙ sym (append_assoc (line_of_entry position x) (entry_lines (position + 1) es) (line_of_entry (position + suc (length es)) e))
 
 or_assoc : (x y z : Bool) → (x || (y || z)) ≡ ((x || y) || z)
 or_assoc true y z = refl
@@ -64,171 +54,123 @@ halt_last (x ∷ es) e = ap (λ (b : Bool). is_halt x.reply || b) (halt_last es 
 pub same_facts : (old new : BankState) → KeepsBank old new → facts_of new ≡ facts_of old
 same_facts old new keeps = facts_last old new keeps.found keeps.lanes.count (λ c below. (keeps.lanes.each c below).part)
 
-still_built : (old new : BankState) → KeepsBank old new → IsBuilt old → IsBuilt new
-still_built old new keeps built c below =
-    let there : c < lanes_of old.bus = subst (λ (n : ℕ). c < n) keeps.lanes.count below in
-    ap (λ (p : Part). p.weak) (keeps.lanes.each c there).part ∙ built c there
-
--- ---- a read or a program changes no lock
-
 false_true : false ≡ true → ⊥
 false_true is = cc
-
-same_locks : (reply : Reply) (caller : ℕ) (op : Op) (bytes : List ℕ) (a : ArrayState) → is_built_call op ≡ true
-    → (after_reply reply (record { caller = caller; op = op; reply = reply; bytes = bytes }) a).locks ≡ a.locks
-same_locks reply caller (Read at len) bytes a built = range_locks reply caller (Read at len) bytes a refl
-same_locks reply caller (Program at new) bytes a built = range_locks reply caller (Program at new) bytes a refl
-same_locks reply caller (EraseOpen b) bytes a built = absurd (false_true built)
-same_locks reply caller EraseAll bytes a built = absurd (false_true built)
-same_locks reply caller Poll bytes a built = absurd (false_true built)
-same_locks reply caller (Lock b) bytes a built = absurd (false_true built)
-same_locks reply caller (Unlock b) bytes a built = absurd (false_true built)
-same_locks reply caller (IsLocked b) bytes a built = absurd (false_true built)
-same_locks reply caller (Arm cycles mask) bytes a built = absurd (false_true built)
-same_locks reply caller PowerOn bytes a built = absurd (false_true built)
-
-pub still_unlocked : (a : ArrayState) (e : Entry) → is_built_call e.op ≡ true → ((n : ℕ) → is_locked a n ≡ false) → (n : ℕ) → is_locked (after a e) n ≡ false
-still_unlocked a e built unlocked n =
-    ap (λ (locks : List Bool). slice_index_or locks n false) (same_locks e.reply e.caller e.op e.bytes a built) ∙ unlocked n
 
 -- ---- one more line
 
 -- The first n lines were run, and more can be.
-pub record RunsSoFar (lines : List Line) (n : ℕ) (old now : BankState) (before after : SinkState) (ran : Ran) : Type 0 where
+pub record RunsSoFar {T E : Type 0} (takes : Takes T E) (lines : List Line) (n : ℕ) (old now : BankState) (before after : T) (ran : Ran) : Type 0 where
   pub history : List Entry
   pub is : IsHistoryOf false (take n lines) old now history
-  pub text : Appends before.taken (entry_lines 0 history) after.taken
+  pub took : TakesAll takes 0 history before after
   pub entries : ran.entries ≡ length history
   pub halted : ran.halted ≡ has_halt history
-  pub can : (a : ArrayState) → CanCall old a → CanCall now (after_all a history)
 
-pub no_line : (lines : List Line) (b : BankState) (before : SinkState)
-    → RunsSoFar lines 0 b b before before (record { entries = 0; halted = false })
-no_line lines b before = record {
+pub no_line : {T E : Type 0} (takes : Takes T E) (lines : List Line) (b : BankState) (before : T)
+    → RunsSoFar takes lines 0 b b before before (record { entries = 0; halted = false })
+no_line takes lines b before = record {
   history = [];
-  is = record { answers = refl; leads = λ a can. record { legal = tt; stands = can.stands; lasts = lasts_self b a can.stands } };
-  text = nothing_put before.taken;
+  is = record { answers = refl; leads = λ a stands. record { legal = tt; stands = stands; stays = λ c below. stays_self _ } };
+  took = refl;
   entries = refl;
   halted = refl;
-  can = λ a can. can;
 }
 
 -- an entry behind a history that leads to where its call was made
 leads_on : (old now new : BankState) (a : ArrayState) (es : List Entry) (e : Entry) → KeepsBank old now → Leads es old now a
-    → MakesEntry now new e (after_all a es) → EachLane Lasts now.bus new.bus → Leads (es ++ e ∷ []) old new a
-leads_on old now new a es e keeps leads makes lasts = record {
+    → MakesEntry now new e (after_all a es) → new.erase ≡ None → EachLane StaysFiled now.bus new.bus → Leads (es ++ e ∷ []) old new a
+leads_on old now new a es e keeps leads makes closed stays = record {
   legal = legal_more (facts_of old) a es e leads.legal makes.admitted (subst (λ (f : Facts). Agrees f (after_all a es) e) (same_facts old now keeps) makes.agrees);
-  stands = subst (λ (x : ArrayState). Stands new x) (sym (after_last a es e)) makes.stands;
-  lasts = lasts_on old.bus now.bus new.bus keeps.lanes.count leads.lasts lasts;
+  stands = record { stands = subst (λ (x : ArrayState). Stands new x) (sym (after_last a es e)) makes.stands; closed = closed };
+  stays = stays_on old.bus now.bus new.bus keeps.lanes.count leads.stays stays;
 }
 
 -- an entry of a line behind a history of those before
 pub one_more : (lines : List Line) (n : ℕ) (line : Line) (op : Op) (old now new : BankState) (es : List Entry) (e : Entry)
     → n < length lines → get_or lines n line ≡ line → line.word ≡ Call op → IsOf line.caller op e
     → KeepsBank old now → IsHistoryOf false (take n lines) old now es
-    → ((a : ArrayState) → CanCall old a → CanCall now (after_all a es))
-    → ((a : ArrayState) → CanCall now a → MakesEntry now new e a) → ((a : ArrayState) → CanCall now a → EachLane Lasts now.bus new.bus)
+    → ((a : ArrayState) → Stands now a → MakesEntry now new e a) → (now.erase ≡ None → new.erase ≡ None)
+    → ((a : ArrayState) → StandsClosed now a → EachLane StaysFiled now.bus new.bus)
     → IsHistoryOf false (take (suc n) lines) old new (es ++ e ∷ [])
-one_more lines n line op old now new es e below at word of keeps is can makes lasts = record {
+one_more lines n line op old now new es e below at word of keeps is makes closed stays = record {
   answers =
       let one : AnswersWord line.word line.caller (e ∷ []) = subst (λ (w : Word). AnswersWord w line.caller (e ∷ [])) (sym word) of in
       let more : AnswersRun (take n lines ++ line ∷ []) (es ++ e ∷ []) =
       answers_more (take n lines) (line ∷ []) es (e ∷ []) is.answers (answers_line line (e ∷ []) one) in
       subst (λ (ls : List Line). AnswersRun ls (es ++ e ∷ [])) (sym (take-suc lines n line below ∙ ap (λ (l : Line). take n lines ++ l ∷ []) at)) more;
   leads = λ a first.
-      leads_on old now new a es e keeps (is.leads a first) (makes (after_all a es) (can a first)) (lasts (after_all a es) (can a first));
+      let so = is.leads a first in
+      leads_on old now new a es e keeps so (makes (after_all a es) so.stands.stands) (closed so.stands.closed) (stays (after_all a es) so.stands);
 }
 
--- its text behind theirs
-pub text_more : (es : List Entry) (e : Entry) (n : ℕ) → n ≡ length es → entry_lines 0 (es ++ e ∷ []) ≡ entry_lines 0 es ++ line_of_entry n e
-text_more es e n is =
-    let there : 0 + length es ≡ n = omega (arith, is) in
-    lines_last 0 es e ∙ ap (λ (k : ℕ). entry_lines 0 es ++ line_of_entry k e) there
-
--- calls go on to be built for the bank and the array after an entry
-still_can : (now new : BankState) (a : ArrayState) (es : List Entry) (e : Entry) → KeepsBank now new → is_built_call e.op ≡ true
-    → CanCall now (after_all a es) → MakesEntry now new e (after_all a es) → CanCall new (after_all a (es ++ e ∷ []))
-still_can now new a es e next built can makes = record {
-  stands = subst (λ (x : ArrayState). Stands new x) (sym (after_last a es e)) makes.stands;
-  closed = next.erase can.closed;
-  built = still_built now new next can.built;
-  unlocked = subst (λ (x : ArrayState). (k : ℕ) → is_locked x k ≡ false) (sym (after_last a es e))
-      (still_unlocked (after_all a es) e built can.unlocked);
-}
-
-line_more : (lines : List Line) (n : ℕ) (line : Line) (op : Op) (old now new : BankState) (before mid after : SinkState) (ran : Ran) (reply : Reply)
+line_more : {T E : Type 0} (takes : Takes T E) (lines : List Line) (n : ℕ) (line : Line) (op : Op) (old now new : BankState) (before mid after : T) (ran : Ran) (reply : Reply)
     → n < length lines → get_or lines n line ≡ line → line.word ≡ Call op → is_built_call op ≡ true
     → KeepsBank old now → KeepsBank now new
-    → RunsSoFar lines n old now before mid ran
-    → RunsCall line.caller op ran.entries now new mid after (Ok reply)
-    → RunsSoFar lines (suc n) old new before after (record { entries = ran.entries + 1; halted = ran.halted || is_halt reply })
-line_more lines n line op old now new before mid after ran reply below at word built keeps next so runs =
+    → RunsSoFar takes lines n old now before mid ran
+    → RunsCall takes line.caller op ran.entries now new mid after (Ok reply)
+    → RunsSoFar takes lines (suc n) old new before after (record { entries = ran.entries + 1; halted = ran.halted || is_halt reply })
+line_more takes lines n line op old now new before mid after ran reply below at word built keeps next so runs =
     let e = runs.entry in
     record {
       history = so.history ++ e ∷ [];
-      is = one_more lines n line op old now new so.history e below at word runs.is keeps so.is so.can runs.makes runs.lasts;
-      text = subst (λ (t : List ℕ). Appends before.taken t after.taken) (sym (text_more so.history e ran.entries so.entries))
-          (Appends-append before.taken mid.taken after.taken (entry_lines 0 so.history) (line_of_entry ran.entries e) so.text runs.puts.1);
+      is = one_more lines n line op old now new so.history e below at word runs.is keeps so.is runs.makes runs.closed runs.stays;
+      took = takes_more takes so.history e ran.entries before mid after so.entries so.took runs.hands.1;
       entries = ap (λ (k : ℕ). k + 1) so.entries ∙ sym (length-append so.history (e ∷ []));
-      halted = (λ i. so.halted i || is_halt (runs.puts.0 i)) ∙ sym (halt_last so.history e);
-      can = λ a first.
-          let can = so.can a first in
-          still_can now new a so.history e next (ap is_built_call runs.is.calls ∙ built) can (runs.makes (after_all a so.history) can);
+      halted = (λ i. so.halted i || is_halt (runs.hands.0 i)) ∙ sym (halt_last so.history e);
     }
 
 -- the line after the first n was run
-pub word_more : (lines : List Line) (n : ℕ) (line : Line) (word : Word) (old now new : BankState) (before mid after : SinkState) (ran : Ran) (reply : Reply)
+pub word_more : {T E : Type 0} (takes : Takes T E) (lines : List Line) (n : ℕ) (line : Line) (word : Word) (old now new : BankState) (before mid after : T) (ran : Ran) (reply : Reply)
     → n < length lines → get_or lines n line ≡ line → line.word ≡ word → is_built_word word ≡ true
     → KeepsBank old now → KeepsBank now new
-    → RunsSoFar lines n old now before mid ran
-    → RunsWord word line.caller ran.entries now new mid after (Ok reply)
-    → RunsSoFar lines (n + 1) old new before after (record { entries = ran.entries + 1; halted = ran.halted || is_halt reply })
-word_more lines n line (Call op) old now new before mid after ran reply below at word built keeps next so runs =
+    → RunsSoFar takes lines n old now before mid ran
+    → RunsWord takes word line.caller ran.entries now new mid after (Ok reply)
+    → RunsSoFar takes lines (n + 1) old new before after (record { entries = ran.entries + 1; halted = ran.halted || is_halt reply })
+word_more takes lines n line (Call op) old now new before mid after ran reply below at word built keeps next so runs =
     let more : suc n ≡ n + 1 = omega arith in
-    subst (λ (m : ℕ). RunsSoFar lines m old new before after (record { entries = ran.entries + 1; halted = ran.halted || is_halt reply })) more
-    (line_more lines n line op old now new before mid after ran reply below at word built keeps next so runs)
-word_more lines n line (Erase b) old now new before mid after ran reply below at word built keeps next so runs = absurd runs
-word_more lines n line EraseAllLine old now new before mid after ran reply below at word built keeps next so runs = absurd runs
+    subst (λ (m : ℕ). RunsSoFar takes lines m old new before after (record { entries = ran.entries + 1; halted = ran.halted || is_halt reply })) more
+    (line_more takes lines n line op old now new before mid after ran reply below at word built keeps next so runs)
+word_more takes lines n line (Erase b) old now new before mid after ran reply below at word built keeps next so runs = absurd runs
+word_more takes lines n line EraseAllLine old now new before mid after ran reply below at word built keeps next so runs = absurd runs
 
--- its entry wasn't put whole
-pub part_put : (text : List ℕ) (reply : Reply) (before after : SinkState) (error : SinkError) → PutsReply text reply before after (Err error) → AppendsPart before.taken text after.taken
-part_put text reply before after Fault puts = puts.1
-part_put text reply before after NoMemory puts = puts
-
-pub word_stopped : (lines : List Line) (n : ℕ) (line : Line) (word : Word) (old now new : BankState) (before mid after : SinkState) (ran : Ran) (error : SinkError)
+-- its entry wasn't taken
+pub word_stopped : {T E : Type 0} (takes : Takes T E) (lines : List Line) (n : ℕ) (line : Line) (word : Word) (old now new : BankState) (before mid after : T) (ran : Ran) (stop : E)
     → n < length lines → get_or lines n line ≡ line → line.word ≡ word → KeepsBank old now
-    → RunsSoFar lines n old now before mid ran
-    → RunsWord word line.caller ran.entries now new mid after (Err error)
-    → RunsPart false lines old new before after
-word_stopped lines n line (Erase b) old now new before mid after ran error below at word keeps so runs = absurd runs
-word_stopped lines n line EraseAllLine old now new before mid after ran error below at word keeps so runs = absurd runs
-word_stopped lines n line (Call op) old now new before mid after ran error below at word keeps so runs =
+    → RunsSoFar takes lines n old now before mid ran
+    → RunsWord takes word line.caller ran.entries now new mid after (Err stop)
+    → RunsPart takes false lines old new before after stop
+word_stopped takes lines n line (Erase b) old now new before mid after ran stop below at word keeps so runs = absurd runs
+word_stopped takes lines n line EraseAllLine old now new before mid after ran stop below at word keeps so runs = absurd runs
+word_stopped takes lines n line (Call op) old now new before mid after ran stop below at word keeps so runs =
     let e = runs.entry in
     record {
       history = so.history ++ e ∷ [];
       count = suc n;
       all = tt;
-      is = one_more lines n line op old now new so.history e below at word runs.is keeps so.is so.can runs.makes runs.lasts;
-      text = subst (λ (t : List ℕ). AppendsPart before.taken t after.taken) (sym (text_more so.history e ran.entries so.entries))
-          (AppendsPart-append before.taken mid.taken after.taken (entry_lines 0 so.history) (line_of_entry ran.entries e) so.text
-          (part_put (line_of_entry ran.entries e) e.reply mid after error runs.puts));
+      is = one_more lines n line op old now new so.history e below at word runs.is keeps so.is runs.makes runs.closed runs.stays;
+      stops = record {
+        taken = so.history;
+        entry = e;
+        rest = [];
+        parts = refl;
+        mid = mid;
+        took = so.took;
+        stops = subst (λ (k : ℕ). takes k (told e) mid after (Err stop)) so.entries runs.hands;
+      };
+      last = λ _. refl;
     }
 
 -- all lines were
-pub all_run : (lines : List Line) (n : ℕ) (old new : BankState) (before after : SinkState) (ran : Ran)
-    → length lines ≤ n → RunsSoFar lines n old new before after ran → RunsWhole false lines old new before after ran
-all_run lines n old new before after ran over so = record {
+pub all_run : {T E : Type 0} (takes : Takes T E) (lines : List Line) (n : ℕ) (old new : BankState) (before after : T) (ran : Ran)
+    → length lines ≤ n → RunsSoFar takes lines n old new before after ran → RunsWhole takes false lines old new before after ran
+all_run takes lines n old new before after ran over so = record {
   history = so.history;
   is = subst (λ (ls : List Line). IsHistoryOf false ls old new so.history) (take_all n lines over) so.is;
-  text = so.text;
+  took = so.took;
   entries = so.entries;
   halted = so.halted;
 }
-
--- whatever the error is
-pub err_is : {T E : Type 0} (r : Result T E) (P : Type 0) → P → IfErr r (λ e. P)
-err_is (Ok x) P is = tt
-err_is (Err e) P is = is
 
 pub and_first : (x y : Bool) → (x && y) ≡ true → x ≡ true
 and_first true y is = refl
@@ -244,26 +186,69 @@ line_built [] n line below built = absurd (omega arith)
 line_built (x ∷ lines) zero line below built = and_first (is_built_word x.word) (are_built lines) built
 line_built (x ∷ lines) (suc n) line below built = line_built lines n line (omega arith) (and_second (is_built_word x.word) (are_built lines) built)
 
--- ---- what one thread puts
+-- ---- what a sink was given
 
-put_runs_as : (lines : List Line) (old new : BankState) (before after : SinkState) (ran : Result Ran SinkError)
-    → IfOk ran (RunsWhole false lines old new before after) → IfErr ran (λ e. RunsPart false lines old new before after)
-    → RunsLines false lines old new before after (of_put ran)
-put_runs_as lines old new before after (Ok r) whole part = whole
-put_runs_as lines old new before after (Err e) whole part = part
+whole_by_state : {K : Type 0} (state : K → SinkState) (race : Bool) (lines : List Line) (old new : BankState) (before after : K) (ran : Ran)
+    → RunsWhole (PutsBy state) race lines old new before after ran → RunsLines race lines old new (state before) (state after) (Ok ran)
+whole_by_state state race lines old new before after ran runs = record {
+  history = runs.history;
+  is = runs.is;
+  took = by_state state 0 runs.history before after runs.took;
+  entries = runs.entries;
+  halted = runs.halted;
+}
 
-pub put_runs : (lines : List Line) (old new : BankState) (before after : SinkState) (ran : Result Ran SinkError) (result : Result Ran RunError) → result ≡ of_put ran
-    → IfOk ran (RunsWhole false lines old new before after) → IfErr ran (λ e. RunsPart false lines old new before after)
-    → RunsLines false lines old new before after result
-put_runs lines old new before after ran result put whole part =
-    subst (λ (r : Result Ran RunError). RunsLines false lines old new before after r) (sym put) (put_runs_as lines old new before after ran whole part)
+part_by_state : {K : Type 0} (state : K → SinkState) (race : Bool) (lines : List Line) (old new : BankState) (before after : K) (stop : SinkError)
+    → RunsPart (PutsBy state) race lines old new before after stop → RunsLines race lines old new (state before) (state after) (Err (Put stop))
+part_by_state state race lines old new before after stop runs = record {
+  history = runs.history;
+  count = runs.count;
+  all = runs.all;
+  is = runs.is;
+  stops = record {
+    taken = runs.stops.taken;
+    entry = runs.stops.entry;
+    rest = runs.stops.rest;
+    parts = runs.stops.parts;
+    mid = state runs.stops.mid;
+    took = by_state state 0 runs.stops.taken before runs.stops.mid runs.stops.took;
+    stops = runs.stops.stops;
+  };
+  last = runs.last;
+}
+
+put_runs_as : {K : Type 0} (state : K → SinkState) (race : Bool) (lines : List Line) (old new : BankState) (before after : K) (ran : Result Ran SinkError)
+    → IfOk ran (RunsWhole (PutsBy state) race lines old new before after) → IfErr ran (RunsPart (PutsBy state) race lines old new before after)
+    → RunsLines race lines old new (state before) (state after) (of_put ran)
+put_runs_as state race lines old new before after (Ok r) whole part = whole_by_state state race lines old new before after r whole
+put_runs_as state race lines old new before after (Err e) whole part = part_by_state state race lines old new before after e part
+
+pub put_runs : {K : Type 0} (state : K → SinkState) (race : Bool) (lines : List Line) (old new : BankState) (before after : K) (ran : Result Ran SinkError) (result : Result Ran RunError)
+    → result ≡ of_put ran → IfOk ran (RunsWhole (PutsBy state) race lines old new before after) → IfErr ran (RunsPart (PutsBy state) race lines old new before after)
+    → RunsLines race lines old new (state before) (state after) result
+put_runs state race lines old new before after ran result put whole part =
+    subst (λ (r : Result Ran RunError). RunsLines race lines old new (state before) (state after) r) (sym put) (put_runs_as state race lines old new before after ran whole part)
 
 -- it stops for want of nothing but the sink
-put_ends_as : (race : Bool) (before after : SinkState) (ran : Result Ran SinkError) → (ran ≡ Err Fault → Rose before.faults after.faults) → EndsLines race before after (of_put ran)
-put_ends_as race before after (Ok r) fault = tt
-put_ends_as race before after (Err Fault) fault = fault refl
-put_ends_as race before after (Err NoMemory) fault = tt
+put_ends_as : (race : Bool) (lines : List Line) (old new : BankState) (before after : SinkState) (ran : Result Ran SinkError) → RunsLines race lines old new before after (of_put ran)
+    → EndsLines race before after (of_put ran)
+put_ends_as race lines old new before after (Ok r) runs = tt
+put_ends_as race lines old new before after (Err Fault) runs = stops_rose runs.history before after runs.stops
+put_ends_as race lines old new before after (Err NoMemory) runs = tt
 
-pub put_ends : (race : Bool) (before after : SinkState) (ran : Result Ran SinkError) (result : Result Ran RunError) → result ≡ of_put ran → (ran ≡ Err Fault → Rose before.faults after.faults)
-    → EndsLines race before after result
-put_ends race before after ran result put fault = subst (λ (r : Result Ran RunError). EndsLines race before after r) (sym put) (put_ends_as race before after ran fault)
+pub put_ends : (race : Bool) (lines : List Line) (old new : BankState) (before after : SinkState) (ran : Result Ran SinkError) (result : Result Ran RunError) → result ≡ of_put ran
+    → RunsLines race lines old new before after result → EndsLines race before after result
+put_ends race lines old new before after ran result put runs =
+    subst (λ (r : Result Ran RunError). EndsLines race before after r) (sym put)
+    (put_ends_as race lines old new before after ran (subst (λ (r : Result Ran RunError). RunsLines race lines old new before after r) put runs))
+
+-- its count of faults never falls
+put_later_as : (race : Bool) (lines : List Line) (old new : BankState) (before after : SinkState) (ran : Result Ran SinkError) → RunsLines race lines old new before after (of_put ran)
+    → before.faults ≤ after.faults
+put_later_as race lines old new before after (Ok r) runs = took_later 0 runs.history before after runs.took
+put_later_as race lines old new before after (Err e) runs = stops_later runs.history before after e runs.stops
+
+pub put_later : (race : Bool) (lines : List Line) (old new : BankState) (before after : SinkState) (ran : Result Ran SinkError) (result : Result Ran RunError) → result ≡ of_put ran
+    → RunsLines race lines old new before after result → before.faults ≤ after.faults
+put_later race lines old new before after ran result put runs =
+    put_later_as race lines old new before after ran (subst (λ (r : Result Ran RunError). RunsLines race lines old new before after r) put runs)

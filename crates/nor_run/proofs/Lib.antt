@@ -5,3 +5,4 @@ pub mod FileSizes
 pub mod Growing
 pub mod JustLoaded
 pub mod Reporting
+pub mod Taking

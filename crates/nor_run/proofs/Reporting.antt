@@ -1,10 +1,10 @@
 -- From a bank that was started to the bank that was loaded.
-use Rattle.std.proofs.Common.{◌≡◌, ◌≢◌, ◌<◌, ◌≤◌, ◌*◌, ◌==◌, ◌∙◌, not, ℕ, zero, suc, List, [], ◌∷◌, length, take, map, Bool, true, false, Option, Some, None, Result, Ok, Err, refl, sym, ap, subst, arith}
+use Rattle.std.proofs.Common.{◌≡◌, ◌≢◌, ◌<◌, ◌≤◌, ◌*◌, ◌==◌, ◌∙◌, inl, inr, not, ℕ, zero, suc, List, [], ◌∷◌, length, take, map, Bool, true, false, Option, Some, None, Result, Ok, Err, refl, sym, ap, subst, arith}
 use Rattle.std.specs.List.{list_all}
 use Rattle.nor_io.specs.Files.{SinkState, Appends, AppendsPart}
 use Rattle.nor_io.specs.declared.sink.SinkError.{SinkError}
 use Rattle.nor_io.specs.declared.sink.SinkError.TheVariants.{Fault, NoMemory}
-use Rattle.nor_io.proofs.Pieces.{Appends-append, AppendsPart-append, AppendsPart-more}
+use Rattle.nor_io.proofs.Pieces.{Appends-append, AppendsPart-append}
 use Rattle.nor_io.proofs.Putting.{none_left}
 use Rattle.nor_cell.proofs.Logic.{both_pass}
 use Rattle.nor_cell.specs.Chip.{ChipState}
@@ -28,10 +28,9 @@ use Rattle.nor_array.specs.Legal.{Facts, Legal}
 use Rattle.nor_array.specs.declared.entry.Entry.{Entry}
 use Rattle.nor_array.specs.declared.state.OpenErase.{OpenErase}
 use Rattle.nor_io.specs.Puts.{PutsText}
-use Rattle.nor_script.specs.Report.{entry_lines, totals_text}
+use Rattle.nor_script.specs.Report.{entry_lines, totals_text, report_text}
 use Rattle.nor_script.specs.declared.line.Line.{Line}
 use Rattle.nor_bank.specs.Calls.{facts_of}
-use Rattle.nor_bank.specs.Programs.{Lasts, IsSound}
 use Rattle.nor_bank.specs.Stands.{Stands, IsKnown, CanStart, opening_array, constants_of, under_of, kept_power, cut_of, is_under}
 use Rattle.nor_bank.specs.State.{BankState, size_of, bytes_of}
 use Rattle.nor_bank.proofs.Known.{known_parts, known_some}
@@ -41,25 +40,27 @@ use Rattle.nor_image.specs.declared.loaded.Loaded.{Loaded}
 use Rattle.nor_image.specs.Written.{file_of, Stores}
 use Rattle.nor_cell.specs.Power.{powered}
 use Rattle.nor_run.specs.Built.{is_faultless, is_built_bank}
-use Rattle.nor_bank.specs.Work.{CanCall, KeepsBank}
+use Rattle.nor_bank.specs.Work.{StandsClosed, StaysFiled, KeepsBank}
 use Rattle.nor_run.specs.Running.{IsCount, Leads, IsHistoryOf, RunsWhole, RunsPart, RunsLines, EndsLines, ReportsWhole, ReportsPart, ReportsLines, counters_of}
 use Rattle.nor_run.specs.Scripts.{IsJustLoaded, IsLoaded, HasRoom, HasLetters, RunsImage, started, opening_of, HoldsBytes, StandsOn, RunsLegally, IsRunOf, RunsScript, IsRunnable, EndsRun, Reports}
 use Rattle.nor_run.specs.Started.{IsStarted, Starts, Refuses}
 use Rattle.nor_run.specs.declared.error.RunError.{RunError}
 use Rattle.nor_run.specs.declared.error.RunError.TheVariants.{Probe, NotBuilt, NoMemory as Memory, Put}
 use Rattle.nor_run.specs.declared.lines.Ran.{Ran}
+use Rattle.nor_run.specs.Taking.{PutsEntry}
 use Rattle.nor_run.proofs.FileSizes.{still_storable, still_agree, file_length}
+use Rattle.nor_run.proofs.Taking.{took_text, stops_text}
 use Rattle.nor_run.proofs.JustLoaded.{just_loaded, quiet_rests, same_lanes, can_start}
 
 -- ---- the report behind the lines
 
 pub report_whole : (race : Bool) (lines : List Line) (old new : BankState) (before mid after : SinkState) (ran : Ran)
-    → RunsWhole race lines old new before mid ran → Appends mid.taken (totals_text (counters_of new.bus.lanes) ran.entries) after.taken
+    → RunsWhole PutsEntry race lines old new before mid ran → Appends mid.taken (totals_text (counters_of new.bus.lanes) ran.entries) after.taken
     → ReportsWhole race lines old new before after ran
 report_whole race lines old new before mid after ran runs totals = record {
   history = runs.history;
   is = runs.is;
-  text = Appends-append before.taken mid.taken after.taken (entry_lines 0 runs.history) (totals_text (counters_of new.bus.lanes) (length runs.history)) runs.text
+  text = Appends-append before.taken mid.taken after.taken (entry_lines 0 runs.history) (totals_text (counters_of new.bus.lanes) (length runs.history)) (took_text 0 runs.history before mid runs.took)
       (subst (λ (n : ℕ). Appends mid.taken (totals_text (counters_of new.bus.lanes) n) after.taken) runs.entries totals);
   entries = runs.entries;
   halted = runs.halted;
@@ -70,7 +71,7 @@ part_text text before after Fault puts = puts.1
 part_text text before after NoMemory puts = puts
 
 pub report_part : (race : Bool) (lines : List Line) (old new : BankState) (before mid after : SinkState) (ran : Ran) (error : SinkError)
-    → RunsWhole race lines old new before mid ran
+    → RunsWhole PutsEntry race lines old new before mid ran
     → PutsText (totals_text (counters_of new.bus.lanes) ran.entries) mid after (Err error)
     → ReportsPart race lines old new before after
 report_part race lines old new before mid after ran error runs puts = record {
@@ -78,7 +79,9 @@ report_part race lines old new before mid after ran error runs puts = record {
   count = length lines;
   all = whole_count race;
   is = subst (λ (ls : List Line). IsHistoryOf race ls old new runs.history) (sym (whole_list lines)) runs.is;
-  text = AppendsPart-append before.taken mid.taken after.taken (entry_lines 0 runs.history) (totals_text (counters_of new.bus.lanes) (length runs.history)) runs.text
+  whole = report_text runs.history (counters_of new.bus.lanes);
+  due = inr (omega arith, refl);
+  text = AppendsPart-append before.taken mid.taken after.taken (entry_lines 0 runs.history) (totals_text (counters_of new.bus.lanes) (length runs.history)) (took_text 0 runs.history before mid runs.took)
       (subst (λ (n : ℕ). AppendsPart mid.taken (totals_text (counters_of new.bus.lanes) n) after.taken) runs.entries
       (part_text (totals_text (counters_of new.bus.lanes) ran.entries) mid after error puts));
 }
@@ -91,13 +94,16 @@ report_part race lines old new before mid after ran error runs puts = record {
     whole_list [] = refl
     whole_list (l ∷ ls) = ap (λ (rest : List Line). l ∷ rest) (whole_list ls)
 
-pub report_stopped : (race : Bool) (lines : List Line) (old new : BankState) (before after : SinkState) → RunsPart race lines old new before after → ReportsPart race lines old new before after
-report_stopped race lines old new before after runs = record {
+pub report_stopped : (race : Bool) (lines : List Line) (old new : BankState) (before after : SinkState) (error : SinkError) → RunsPart PutsEntry race lines old new before after error
+    → ReportsPart race lines old new before after
+report_stopped race lines old new before after error runs = record {
   history = runs.history;
   count = runs.count;
   all = runs.all;
   is = runs.is;
-  text = AppendsPart-more before.taken after.taken (entry_lines 0 runs.history) (totals_text (counters_of new.bus.lanes) (length runs.history)) runs.text;
+  whole = entry_lines 0 runs.history;
+  due = inl refl;
+  text = stops_text runs.history before after error runs.stops;
 }
 
 -- the end of a report, put or not
@@ -130,7 +136,7 @@ pub reports_failed : (race : Bool) (lines : List Line) (old new : BankState) (be
 reports_failed race lines old new before after (Probe e) runs = runs
 reports_failed race lines old new before after NotBuilt runs = runs
 reports_failed race lines old new before after Memory runs = runs
-reports_failed race lines old new before after (Put e) runs = report_stopped race lines old new before after runs
+reports_failed race lines old new before after (Put e) runs = report_stopped race lines old new before after e runs
 
 -- ---- a bank that was just started
 
@@ -152,29 +158,6 @@ opens width bus b is =
     let armed = ap (cut_of b.after) is.unarmed in
     λ i. record { consts = consts i; bytes = bytes i; locks = locks i; under = under i; power = power i; armed = armed i }
 
--- ---- what can be run
-
-chip_sound : (s : ChipState) → is_faultless s ≡ true → IsSound s
-chip_sound s is = none_left s.part.weak (length s.part.weak == 0) refl (both_pass (length s.part.weak == 0) (not s.part.stuck) is).0
-
-all_sound : (chips : List ChipState) → list_all is_faultless chips ≡ true → (c : ℕ) → c < length chips → IsSound (chip_at chips c)
-all_sound [] all c below = absurd (omega (arith, below))
-all_sound (s ∷ chips) all zero below = chip_sound s (both_pass (is_faultless s) (list_all is_faultless chips) all).0
-all_sound (s ∷ chips) all (suc c) below = all_sound chips (both_pass (is_faultless s) (list_all is_faultless chips) all).1 c (omega (arith, below))
-
-pub can_run : (width : ℕ) (bus : BusState) (b : BankState) → IsStarted width bus b → is_built_bank bus.lanes ≡ true → locks_of b.found.query.extended ≡ false → CanCall b (opening_array b)
-can_run width bus b is built none =
-    let known = is.stands.known in
-    let some = known_some b.found b.bus known in
-    let first = known_parts b.found b.bus known 0 some in
-    let here : is_built_bank b.bus.lanes ≡ true = ap (λ (chips : List ChipState). is_built_bank chips) is.lanes ∙ built in
-    record {
-      stands = is.stands;
-      closed = is.erase;
-      built = all_sound b.bus.lanes here;
-      unlocked = first.unlocked none;
-    }
-
 -- ---- what was run
 
 same_facts : (width : ℕ) (bus : BusState) (b : BankState) → IsStarted width bus b → facts_of b ≡ facts_of (started b.found bus)
@@ -183,9 +166,10 @@ same_facts width bus b is = ap (λ (chips : List ChipState). facts_of (started b
 under_none : (o : Option OpenErase) (consts : _) (p : ℕ) → o ≡ None → is_under o consts p ≡ false
 under_none o consts p is = ap (λ (x : Option OpenErase). is_under x consts p) is
 
-holds_bytes : (b new : BankState) (a : ArrayState) → b.erase ≡ None → KeepsBank b new → Stands new a → HoldsBytes b.found new.bus a
-holds_bytes b new a closed keeps stands =
-    let none : a.under ≡ None = stands.under ∙ ap under_of (keeps.erase closed) in
+holds_bytes : (b new : BankState) (a : ArrayState) → KeepsBank b new → StandsClosed new a → HoldsBytes b.found new.bus a
+holds_bytes b new a keeps on =
+    let stands = on.stands in
+    let none : a.under ≡ None = stands.under ∙ ap under_of on.closed in
     record {
       size = stands.size ∙ size_is new stands.known;
       bytes = λ p below.
@@ -200,13 +184,13 @@ runs_legally width bus b new es is keeps leads =
     record {
       legal = subst (λ (f : Facts). Legal f (opening_of b.found bus) es) (same_facts width bus b is)
           (subst (λ (a : ArrayState). Legal (facts_of b) a es) open_ leads.legal);
-      lasts = λ c below.
-          subst (λ (chips : List ChipState). Lasts (chip_at chips c) (lane new.bus c)) is.lanes
-          (leads.lasts c (subst (λ (chips : List ChipState). c < length chips) (sym is.lanes) below));
+      stays = λ c below.
+          subst (λ (chips : List ChipState). StaysFiled (chip_at chips c) (lane new.bus c)) is.lanes
+          (leads.stays c (subst (λ (chips : List ChipState). c < length chips) (sym is.lanes) below));
       stands = subst (λ (a : ArrayState). StandsOn b.found new.bus (after_all a es)) open_
-          (record { bank = new; on = refl; is = keeps.found; stands = leads.stands });
+          (record { bank = new; on = refl; is = keeps.found; stands = leads.stands.stands });
       holds = subst (λ (a : ArrayState). HoldsBytes b.found new.bus (after_all a es)) open_
-          (holds_bytes b new (after_all (opening_array b) es) is.erase keeps leads.stands);
+          (holds_bytes b new (after_all (opening_array b) es) keeps leads.stands);
     }
 
 is_run : (race : Bool) (width : ℕ) (bus : BusState) (lines : List Line) (b new : BankState) (es : List Entry) → Starts width bus b
@@ -218,7 +202,7 @@ is_run race width bus lines b new es starts keeps history = record {
   kept = keeps_then bus b.bus new.bus starts.kept keeps.lanes;
   legal = λ qry.
       let is = starts.started qry in
-      runs_legally width bus b new es is keeps (history.leads (opening_array b) (can_run width bus b is starts.built starts.locks));
+      runs_legally width bus b new es is keeps (history.leads (opening_array b) (record { stands = is.stands; closed = is.erase }));
 }
 
 -- ---- what was put
@@ -241,6 +225,8 @@ reports_as race width bus lines b new before after (Err (Put error)) starts keep
   count = told.count;
   all = told.all;
   runs = is_run race width bus (take told.count lines) b new told.history starts keeps told.is;
+  whole = told.whole;
+  due = told.due;
   text = told.text;
 }
 
@@ -288,7 +274,7 @@ keeps_lanes bus after width b new starts keeps same =
 -- what starting leaves of it
 pub starts_so : (width : ℕ) (bus : BusState) (b : BankState) (loaded : IsJustLoaded width bus) → AllLanes IsChip bus → AllLanes HasLetters bus
     → IsFoundOn width bus.lanes b.found → (b.halted ≡ None) × (b.erase ≡ None) × (b.after ≡ 0)
-    → EachLane Resets bus b.bus → Counted 0 524 bus b.bus → ((g : Geometry) → CanStart width g bus → Stands b (opening_array b)) → IsStarted width bus b
+    → EachLane Resets bus b.bus → Counted 1 524 bus b.bus → ((g : Geometry) → CanStart width g bus → Stands b (opening_array b)) → IsStarted width bus b
 starts_so width bus b loaded ranges qry found fresh resets counted stands = record {
   is_found = found;
   lanes = same_lanes bus b.bus counted.went.kept.count (λ c below. (loaded.chips c below).quiet) resets;
@@ -348,5 +334,5 @@ image_reports race lines loaded after was now ran result file is same ok told sp
       image = λ agree.
           subst (λ (n : ℕ). IsImageOf file n (map powered new.lanes)) same
           (stores (record { storable = still_storable old new some runs.runs.kept is.storable; agree = agree }));
-      agree = λ qry. still_agree old new some runs.runs.kept.count (runs.runs.legal qry).lasts is.agree;
+      agree = λ qry. still_agree old new some runs.runs.kept.count (runs.runs.legal qry).stays is.agree;
     }

@@ -24,9 +24,9 @@ use Rattle.nor_script.specs.declared.line.Line.{Line}
 use Rattle.nor_io.specs.Files.{SinkState, Rose, Appends, AppendsPart}
 use Rattle.nor_io.specs.declared.sink.SinkError.TheVariants.{Fault, NoMemory}
 use Rattle.nor_bank.specs.Calls.{facts_of}
-use Rattle.nor_bank.specs.Programs.{Lasts}
 use Rattle.nor_bank.specs.Stands.{Stands, constants_of}
 use Rattle.nor_bank.specs.State.{BankState}
+use Rattle.nor_bank.specs.Work.{StaysFiled}
 use Rattle.nor_image.specs.Image.{IsImageOf, device_of}
 use Rattle.nor_image.specs.Loaded.{bus_of, loaded_width, IsFreshBus}
 use Rattle.nor_image.specs.Written.{file_of, AreStorable, AgreeOnLocks}
@@ -34,7 +34,7 @@ use Rattle.nor_image.specs.declared.loaded.Loaded.{Loaded}
 use Rattle.nor_run.specs.declared.error.RunError.{RunError}
 use Rattle.nor_run.specs.declared.error.RunError.TheVariants.{Probe, NotBuilt, NoMemory as Memory, Put}
 use Rattle.nor_run.specs.Built.{is_built_bank}
-use Rattle.nor_run.specs.Running.{counters_of, IsCount, Untouched}
+use Rattle.nor_run.specs.Running.{counters_of, IsCount, IsDue, Untouched}
 use Rattle.nor_run.specs.declared.lines.Ran.{Ran}
 
 -- a bank of which this was found, before its first call
@@ -65,10 +65,10 @@ pub record StandsOn (found : Found) (bus : BusState) (a : ArrayState) : Type 0 w
 -- ---- what was run
 
 -- The entries are a legal history from the opening array, and led the bus from old to new, which stands for the array
--- after them. Of each chip all is as it was but the cells, which are the bytes of that array.
+-- after them. All that a file keeps of each chip is as it was but the cells, which are the bytes of that array.
 pub record RunsLegally (old new : BusState) (found : Found) (es : List Entry) : Type 0 where
   pub legal : Legal (facts_of (started found old)) (opening_of found old) es
-  pub lasts : EachLane Lasts old new
+  pub stays : EachLane StaysFiled old new
   pub stands : StandsOn found new (after_all (opening_of found old) es)
   pub holds : HoldsBytes found new (after_all (opening_of found old) es)
 
@@ -90,14 +90,17 @@ pub record RunsScript (race : Bool) (width : ℕ) (lines : List Line) (old new :
   pub entries : ran.entries ≡ length history
   pub halted : ran.halted ≡ has_halt history
 
--- The first lines of the script were run, or in a race all, and of the report of their entries a first part was put.
+-- The first lines of the script were run, or in a race all, and of what there is then to put a first part was put: of
+-- the lines of their entries, or, where all were run, of the whole report.
 pub record RunsPartly (race : Bool) (width : ℕ) (lines : List Line) (old new : BusState)
     (before after : SinkState) : Type 0 where
   pub history : List Entry
   pub count : ℕ
   pub all : IsCount race lines count
   pub runs : IsRunOf race width (take count lines) old new history
-  pub text : AppendsPart before.taken (report_text history (counters_of new.lanes)) after.taken
+  pub whole : List ℕ
+  pub due : IsDue lines count history (counters_of new.lanes) whole
+  pub text : AppendsPart before.taken whole after.taken
 
 -- ---- how it ends
 

@@ -83,11 +83,11 @@ fn run_loaded<K: Sink>(
 /// as they were. It takes no memory, and never answers `NoMemory`.
 ///
 /// The report is that of entries that answer the lines, and of the chips' counters, and the file is that of
-/// the bank, whose chips stay what they are; after `Put` the sink has taken a first part of such a report, of
-/// entries that answer the first lines. Where the chips' tables begin with `QRY`, the entries are a legal
-/// history of the plain array that opens with the bank's bytes and locks, and the file stands for a bank that
-/// is as before, but for its cells, which are the array's bytes after it; the bank halts only where a line
-/// arms a cut or a chip never ends its work.
+/// the bank, whose chips stay what they are; after `Put` the sink has taken a first part of the lines of entries
+/// that answer the first lines, or of such a report of all. Where the chips' tables begin with `QRY`, the entries
+/// are a legal history of the plain array that opens with the bank's bytes and locks, and the file stands for a
+/// bank that is as before, but for its cells, which are the array's bytes after it; the bank halts only where a
+/// line arms a cut or a chip never ends its work.
 pub fn run_image<K: Sink>(
     loaded: Loaded,
     file: &mut [u8],

@@ -60,7 +60,8 @@ plain_reply NoLocks = codes "no-locks"
 plain_reply NoChipErase = codes "no-chip-erase"
 plain_reply Nothing = codes "nothing"
 plain_reply NotYet = codes "not-yet"
-plain_reply (Failed from to lanes) = codes "failed " ++ address from ++ codes " " ++ address to ++ codes " lanes " ++ decimal lanes
+plain_reply (Failed from to lanes) =
+    codes "failed " ++ address from ++ codes " " ++ address to ++ codes " lanes " ++ decimal lanes
 plain_reply (HaltedReply halted) = halt_text halted
 
 -- A read that is done gives its data. What stands in uncertain spans isn't told.
@@ -87,7 +88,9 @@ entry_line position caller op reply bytes = call_text position caller op ++ repl
 
 -- the line of a lane: how often an erase was suspended, and how many erases there were
 abbrev pub lane_line : ℕ → ℕ × ℕ → List ℕ
-lane_line lane counters = codes "lane " ++ decimal lane ++ codes " suspends " ++ decimal counters.0 ++ codes " erases " ++ decimal counters.1 ++ codes "\n"
+lane_line lane counters =
+    codes "lane " ++ decimal lane ++ codes " suspends " ++ decimal counters.0
+    ++ codes " erases " ++ decimal counters.1 ++ codes "\n"
 
 -- the lines of the lanes from one on
 abbrev pub lane_lines : ℕ → List (ℕ × ℕ) → List ℕ

@@ -38,9 +38,10 @@ with_line (Err error) rest = Err error
 abbrev pub script_from : (race has_callers : Bool) → (n count : ℕ) → List (List ℕ) → Result (List Line) ScriptError
 script_from race has_callers n count [] = Ok []
 script_from race has_callers n count (text ∷ texts) =
+    let line = line_of race has_callers n text in
     if is_skipped text then script_from race has_callers (n + 1) count texts
     else if nat_lt count 65536 then
-    with_line (line_of race has_callers n text) (script_from race (has_callers || has_caller (line_of race has_callers n text)) (n + 1) (count + 1) texts)
+    with_line line (script_from race (has_callers || has_caller line) (n + 1) (count + 1) texts)
     else Err TooManyLines
 
 -- What a script says: its command lines, or what is wrong with the first that is bad.

@@ -54,17 +54,26 @@ line word says = word ++ says ++ codes "\n"
 -- how the chips are wired: the bus word's bytes, the lanes, the device
 abbrev pub wiring_lines : ℕ → Geometry → List ℕ
 wiring_lines width g =
-    line (codes "width ") (decimal width) ++ line (codes "lanes ") (decimal g.lanes) ++ line (codes "device ") (device_name g.device)
+    line (codes "width ") (decimal width)
+    ++ line (codes "lanes ") (decimal g.lanes)
+    ++ line (codes "device ") (device_name g.device)
 
 -- the command set, the bytes of a chip, and those of the bank, which its map covers
 abbrev pub size_lines : Query → List Region → List ℕ
 size_lines q map =
-    line (codes "set ") (set_name q.set) ++ line (codes "size ") (decimal (2 ^ q.size_log)) ++ line (codes "bank ") (decimal (total_len map))
+    line (codes "set ") (set_name q.set)
+    ++ line (codes "size ") (decimal (2 ^ q.size_log))
+    ++ line (codes "bank ") (decimal (total_len map))
 
--- the interface, and the bytes of a chip's write buffer as a driver uses it
+-- how many bytes a chip's write buffer has, as a driver uses it
+abbrev pub buffer_len : Device → Query → ℕ
+buffer_len device q = buffer_units_of device q.buffer_log * unit_len device
+
+-- the interface, and the write buffer
 abbrev pub buffer_lines : Device → Query → List ℕ
 buffer_lines device q =
-    line (codes "interface ") (decimal q.interface) ++ line (codes "buffer ") (decimal (buffer_units_of device q.buffer_log * unit_len device))
+    line (codes "interface ") (decimal q.interface)
+    ++ line (codes "buffer ") (decimal (buffer_len device q))
 
 -- numbers with a space before each
 abbrev pub spaced : List ℕ → List ℕ
@@ -78,17 +87,20 @@ times_line times = line (codes "times") (spaced times)
 -- the version of the extended table, and the alternate set with the address of its table
 abbrev pub version_lines : Query → List ℕ
 version_lines q =
-    line (codes "version 1.") (decimal q.minor) ++ line (codes "alternate ") (hex_word q.alt_set ++ codes " " ++ hex_word q.alt_ext)
+    line (codes "version 1.") (decimal q.minor)
+    ++ line (codes "alternate ") (hex_word q.alt_set ++ codes " " ++ hex_word q.alt_ext)
 
 -- what may be done while an erase is suspended, and whether blocks can be locked
 abbrev pub offer_lines : Query → List ℕ
 offer_lines q =
-    line (codes "suspend ") (suspend_name (suspend_of q.extended)) ++ line (codes "locks ") (yes_or_no (locks_of q.extended))
+    line (codes "suspend ") (suspend_name (suspend_of q.extended))
+    ++ line (codes "locks ") (yes_or_no (locks_of q.extended))
 
 -- the erase regions from a number on: how many blocks, of how many bytes
 abbrev pub region_lines : ℕ → List Region → List ℕ
 region_lines k [] = []
-region_lines k (region ∷ regions) = line (codes "region") (spaced (k ∷ region.count ∷ region.size ∷ [])) ++ region_lines (k + 1) regions
+region_lines k (region ∷ regions) =
+    line (codes "region") (spaced (k ∷ region.count ∷ region.size ∷ [])) ++ region_lines (k + 1) regions
 
 -- how many blocks, and how often a status is read at most for a word, a buffer load and a block
 abbrev pub limit_lines : Query → List Region → List ℕ

@@ -1,7 +1,6 @@
 ghost use Rattle.std.specs.Prelude.{◌≡◌, ◌<◌, ◌≤◌, ◌*◌, ◌^◌, ◌++◌, List, ℕ, OnOk, IfOk, string_bytes};
 ghost use Rattle.nor_cell.specs.Bits.{unit_len};
-ghost use Rattle.nor_cell.specs.Table.{buffer_units_of};
-ghost use Rattle.nor_show.specs.Lines.{wiring_lines, size_lines, buffer_lines, times_line, version_lines, offer_lines, query_lines, region_lines, limit_lines, shown_lines, spaced};
+ghost use Rattle.nor_show.specs.Lines.{wiring_lines, size_lines, buffer_len, buffer_lines, times_line, version_lines, offer_lines, query_lines, region_lines, limit_lines, shown_lines, spaced};
 
 use crate::{DeviceName, HexWord, SetName, SuspendName, YesOrNo};
 use nor_cell::{Device, Geometry};
@@ -32,7 +31,7 @@ fn write_sizes(text: &mut String, query: &Query, map: &BlockMap) -> Result<(), A
 
 // How many bytes of a chip's write buffer a driver uses.
 fn buffer_bytes(device: Device, query: &Query) -> u32
-    ensures { result ≡ buffer_units_of device query.now.buffer_log * unit_len device }
+    ensures { result ≡ buffer_len device query.now }
 {
     let units = u32::from(query.buffer_units(device));
     match device {

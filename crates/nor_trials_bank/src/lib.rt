@@ -1,19 +1,25 @@
 //! Trials of whole banks of both sets. It has tests only.
 //!
-//! They show what no clause says: that the bank of every wiring can be started and used, as a clause
-//! can't say that memory is left; in how many cycles it answers; and what a loss of power at each cycle of
-//! a call, a weak lane and a stuck one leave.
+//! They show what no clause says: what a bank answers to the callers of worked examples, in how
+//! many cycles, and what a loss of power at each cycle leaves. Each call is compared with the plain
+//! array.
 #![tactic(auto)]
 
 #[cfg(test)]
+mod beside;
+#[cfg(test)]
+mod cuts;
+#[cfg(test)]
 mod cycles;
 #[cfg(test)]
-mod halts;
+mod faults;
 #[cfg(test)]
-mod held;
+mod images;
 #[cfg(test)]
-mod replies;
+mod mixed;
 #[cfg(test)]
-mod weak;
+mod rows;
 #[cfg(test)]
-mod wirings;
+mod turns;
+#[cfg(test)]
+mod words;

@@ -7,7 +7,7 @@ use nor_bus::{Bus, Off, SimBank, read_word, write_code};
 use nor_cell::Device::{self, X8, X16, X16Byte};
 use nor_cell::{Geometry, Set, make_geometry};
 use nor_intel::Intel;
-use nor_poll::{Halt, LaneSet, LaneState, Lanes};
+use nor_poll::{Halt, LaneSet, LaneState, Lanes, reset};
 use nor_samples::{Made, Setup, WEAK_PLACE, WIRINGS, make_bank};
 use nor_set1 as set1;
 use nor_set2 as set2;
@@ -348,4 +348,23 @@ fn settles<C: Made>(
 fn settled_lanes_show_their_arrays(rt: HostRuntime) -> Result<(), Fail> {
     settles::<Intel>(&rt, rt.alloc(), 0x70, 0x0080_0080, 2)?;
     settles::<Amd>(&rt, rt.alloc(), 0x98, 0x0051_0051, 1)
+}
+
+// A reset ends the query.
+fn resets<C: Made>(rt: &impl Abort, alloc: Global) -> Result<(), Fail> {
+    let mut bank = two_chips::<C>(alloc, None, None)?;
+    assert!(rt; write_code::<u32, SimBank<u32, C>>(&mut bank, 0x55, 0x98).is_ok());
+    reads(rt, &mut bank, 0x10, 0x0051_0051);
+    assert_eq!(rt;
+        reset::<u32, SimBank<u32, C>>(C::SET, &mut bank, TWO_CHIPS, 0),
+        Ok(())
+    );
+    reads(rt, &mut bank, 0x10, 0xFFFF_FFFF);
+    Ok(())
+}
+
+#[test]
+fn lanes_that_are_reset_show_their_arrays(rt: HostRuntime) -> Result<(), Fail> {
+    resets::<Intel>(&rt, rt.alloc())?;
+    resets::<Amd>(&rt, rt.alloc())
 }

@@ -1,4 +1,6 @@
 ghost use Rattle.std.proofs.Common.{lit≤, refl};
+ghost use denote.Param.{layout};
+ghost use prog.Memory.{size};
 ghost use Rattle.std.specs.Prelude.{◌≡◌, ◌<◌, ◌≤◌, ◌↔◌, ℕ, List, IsTrue, length, slice_index, slice_set, replicate, bit_and};
 ghost use Rattle.std.specs.Int.{w8, w16, w32, w64, to_le_bytes};
 ghost use Rattle.nor_word.specs.LowBytes.{size_of_bytes, small_bytes};
@@ -39,6 +41,9 @@ pub trait BusWord: Copy + Eq + Drop {
     ghost sized: { IsTrue (is_width WIDTH) };
 
     ghost narrow: { WIDTH ≤ 8 };
+
+    // It takes at most 8 bytes of memory.
+    ghost compact: { size (layout Self.row) ≤ 8 };
 
     ghost small: { (w : Self) (k : ℕ) → slice_index (bytes w) k < 256 };
 
@@ -86,6 +91,8 @@ impl BusWord for u8 {
 
     ghost narrow = { lit≤ tt };
 
+    ghost compact = { lit≤ tt };
+
     ghost small = { small_bytes 0 1 };
 }
 
@@ -119,6 +126,8 @@ impl BusWord for u16 {
     ghost sized = { refl };
 
     ghost narrow = { lit≤ tt };
+
+    ghost compact = { lit≤ tt };
 
     ghost small = { small_bytes 0 2 };
 }
@@ -154,6 +163,8 @@ impl BusWord for u32 {
 
     ghost narrow = { lit≤ tt };
 
+    ghost compact = { lit≤ tt };
+
     ghost small = { small_bytes 0 4 };
 }
 
@@ -187,6 +198,8 @@ impl BusWord for u64 {
     ghost sized = { refl };
 
     ghost narrow = { lit≤ tt };
+
+    ghost compact = { lit≤ tt };
 
     ghost small = { small_bytes 0 8 };
 }

@@ -15,7 +15,7 @@ use Rattle.nor_io.proofs.Putting.{encode-append}
 use Rattle.nor_lane.proofs.Places.{lane_at_below}
 use Rattle.nor_bank.specs.Ranges.{IsReadable, AreOfBank}
 use Rattle.nor_probe.specs.Asking.{Resets}
-use Rattle.norbank.specs.Open.{IsIdleChip, IsOpen, SameBytes}
+use Rattle.norbank.specs.Open.{IsPowered, IsIdleChip, IsOpen, SameBytes}
 use Rattle.norbank.specs.Text.{hex_line}
 
 -- ---- bytes of a bank
@@ -92,6 +92,23 @@ pub still_open : (l m : ℕ) (old new : BusState) → IsOpen old → Went l m ol
 still_open l m old new is went same = record {
   powered = record { power = went.power is.powered.power; armed = still_none l m old.armed new.armed went.armed is.powered.armed };
   chips = let there : (c : ℕ) → c < length new.lanes → IsReadable (chip_at new.lanes c) = subst (λ (ls : List ChipState). (c : ℕ) → c < length ls → IsReadable (chip_at ls c)) (sym same) is.chips in there;
+}
+
+-- a chip that was reset can be read
+reset_readable : (s t : ChipState) → IsIdleChip s → Resets s t → IsReadable t
+reset_readable s t is resets = subst IsReadable (sym (resets is.resting)) (record {
+  shown = record { mode = refl; step = is.resting.rest.step; job = is.resting.rest.job; fault = refl };
+  held = is.resting.held;
+  bytes = is.bytes;
+})
+
+-- and a bus whose chips were reset is open
+pub now_open : (l m : ℕ) (old new : BusState) → IsPowered old → Went l m old new → EachLane Resets old new → AllLanes IsIdleChip old → IsOpen new
+now_open l m old new is went resets idle = record {
+  powered = record { power = went.power is.power; armed = still_none l m old.armed new.armed went.armed is.armed };
+  chips = λ c below.
+      let there = subst (λ (n : ℕ). c < n) went.kept.count below in
+      reset_readable (lane old c) (lane new c) (idle c there) (resets c there);
 }
 
 -- how many bytes the bank has, by its bus words

@@ -53,7 +53,7 @@ whole_begins race image name file text was now before after stop runs whole =
         new = whole.runs.new;
         runs = subst (λ (ls : List Line). IsRunOf race (width_of file) ls (bus_in file) whole.runs.new script.history)
             (sym (take_all (length runs.lines) runs.lines (omega arith))) script.runs;
-        is = refl;
+        due = inr (omega arith, refl);
       };
       part = AppendsPart-whole before.taken after.taken report script.text;
     }
@@ -62,7 +62,7 @@ whole_begins race image name file text was now before after stop runs whole =
 part_begins : (race : Bool) (image name file text : List ℕ) (was now : ShelfState) (before after : SinkState) (stop : Stop) (runs : RunsScript race image file text was now before after (Err stop))
     → RunsPart race file runs.lines was now before after (Err stop) → Begins (Script race image name) file text before after
 part_begins race image name file text was now before after stop runs part = record {
-  whole = report_text part.runs.history (counters_of part.new.lanes);
+  whole = part.runs.whole;
   is = record {
     lines = runs.lines;
     is_script = runs.is_script;
@@ -71,7 +71,7 @@ part_begins race image name file text was now before after stop runs part = reco
     history = part.runs.history;
     new = part.new;
     runs = part.runs.runs;
-    is = refl;
+    due = part.runs.due;
   };
   part = part.runs.text;
 }

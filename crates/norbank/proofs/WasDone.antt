@@ -1,5 +1,5 @@
 -- What a command that was done has printed and saved.
-use Rattle.std.proofs.Common.{◌≡◌, ◌≤◌, ◌+◌, ◌∙◌, ◌⊎◌, inl, inr, ℕ, List, refl, ap, arith, Bool, true, false, nat_lt, Option, Some, None, Result, Ok, Err}
+use Rattle.std.proofs.Common.{◌≡◌, ◌+◌, ◌∙◌, ◌⊎◌, inl, inr, ℕ, List, refl, ap, arith, Bool, true, false, nat_lt, Option, Some, None, Result, Ok, Err}
 use Rattle.nor_bus.specs.Bus.{bank_size}
 use Rattle.nor_image.specs.Image.{image_refusal, width_of}
 use Rattle.nor_io.specs.Files.{ShelfState, SinkState, Appends}
@@ -18,6 +18,7 @@ use Rattle.norbank.specs.declared.stop.File.{File}
 use Rattle.norbank.specs.declared.stop.File.TheVariants.{Bank, Script as ScriptFile}
 use Rattle.norbank.specs.declared.stop.Stop.TheVariants.{BadImage, Unfound, OutOfRange}
 use Rattle.norbank.proofs.Stopping.{AreFree, when_none, none_mapped}
+use Rattle.nor_cell.proofs.Logic.{is_behind}
 
 -- ---- what was done
 
@@ -39,9 +40,6 @@ no_file which is = cc
 accepted_by : (file : List ℕ) → image_stop file ≡ None → probe_stop (width_of file) (chips_of_file file) ≡ None → IsAccepted file
 accepted_by file image probe = record { formed = none_mapped BadImage (image_refusal file) image; accepted = none_mapped Unfound (refusal (width_of file) (chips_of_file file)) probe }
 
-within : (size last : ℕ) → nat_lt size last ≡ false → last ≤ size
-within size last is = grind (arith, is)
-
 pub printed_by : (name : List ℕ) (at len : ℕ) (was now : ShelfState) (before after : SinkState) (done : Done) (bank script : Option (List ℕ)) → IsFound was.files name bank
     → AreFree (stops_of (Read name at len) bank script) → Answers (Read name at len) (bytes_in bank) (bytes_in script) was now before after (Ok done)
     → PrintsImage was.files name at len before after
@@ -50,7 +48,7 @@ printed_by name at len was now before after done (Some file) script is free answ
   file = file;
   is_found = is;
   accepted = accepted_by file free.1.0 free.1.1.0;
-  within = within (bank_size (chips_of_file file)) (at + len) (when_none (nat_lt (bank_size (chips_of_file file)) (at + len)) OutOfRange free.1.1.1.0);
+  within = is_behind (bank_size (chips_of_file file)) (at + len) (when_none (nat_lt (bank_size (chips_of_file file)) (at + len)) OutOfRange free.1.1.1.0);
   text = prints_whole _ was now before after done answers;
 }
 

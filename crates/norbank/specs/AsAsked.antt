@@ -23,7 +23,8 @@ EndsDone command status = (status ≡ all_done) ⊎ ((status ≡ bank_halted) ×
 abbrev pub IsDone : Asked → (was now : ShelfState) → (before after : SinkState) → ℕ → Type 0
 IsDone command was now before after status =
     EndsDone command status
-    ⊎ (((status ≡ fault_told) × (Rose was.faults now.faults ⊎ Rose before.faults after.faults)) ⊎ (status ≡ lacks_memory))
+    ⊎ (((status ≡ fault_told) × (Rose was.faults now.faults ⊎ Rose before.faults after.faults))
+    ⊎ (status ≡ lacks_memory))
 
 -- The command ends as it is asked for, each status with its text. Status 0 means that all was done, and 6 that the
 -- bank halted in it. Where nothing is wrong all is done, unless a fault or want of memory comes between. Status 7

@@ -6,9 +6,8 @@ use Rattle.nor_image.specs.Image.{device_of, width_of}
 use Rattle.nor_io.specs.Files.{SinkState, FileMap, AppendsPart}
 use Rattle.nor_probe.specs.Probed.{IsFoundOn}
 use Rattle.nor_probe.specs.declared.probing.Found.{Found}
-use Rattle.nor_run.specs.Running.{IsCount, Untouched, counters_of}
+use Rattle.nor_run.specs.Running.{IsCount, IsDue, Untouched, counters_of}
 use Rattle.nor_run.specs.Scripts.{IsRunOf}
-use Rattle.nor_script.specs.Report.{report_text}
 use Rattle.nor_script.specs.Script.{script_of}
 use Rattle.nor_script.specs.declared.line.Line.{Line}
 use Rattle.norbank.specs.Does.{Names, bus_in, found_lines}
@@ -18,8 +17,8 @@ use Rattle.norbank.specs.Text.{hex_line}
 use Rattle.norbank.specs.Words.{Asked, Read, Show, Script, Drill, Unknown}
 use Rattle.norbank.specs.declared.stop.Stop.{Stop}
 
--- The text is the report of entries that answer the first lines of a script, in a race all of them, on the bank of a
--- file.
+-- The text is what there is to put of entries that answer the first lines of a script, in a race all of them, on the
+-- bank of a file: the lines of these entries, or, where all lines were run, the whole report.
 pub record IsReport (race : Bool) (file script whole : List ℕ) : Type 0 where
   pub lines : List Line
   pub is_script : script_of race script ≡ Ok lines
@@ -28,7 +27,7 @@ pub record IsReport (race : Bool) (file script whole : List ℕ) : Type 0 where
   pub history : List Entry
   pub new : BusState
   pub runs : IsRunOf race (width_of file) (take count lines) (bus_in file) new history
-  pub is : whole ≡ report_text history (counters_of new.lanes)
+  pub due : IsDue lines count history (counters_of new.lanes) whole
 
 -- the text is what a command puts of a bank and a script
 abbrev pub IsOutput : Asked → (file script whole : List ℕ) → Type 0

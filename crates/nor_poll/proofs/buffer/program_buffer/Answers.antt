@@ -1,22 +1,25 @@
-use Rattle.std.proofs.Common.{min, arith, refl, subst, sym, ap, map, length, ◌∙◌, ◌≡◌, ◌+◌, ◌-◌, ◌*◌, ◌<◌, ◌≤◌, ℕ}
+use Rattle.std.proofs.Common.{inl, inr, min, arith, refl, subst, sym, ap, length, map, ◌∙◌, ◌≡◌, ◌+◌, ◌-◌, ◌*◌, ◌<◌, ◌≤◌, ℕ}
 use Rattle.std.proofs.lemmas.List.{length-map}
 use Rattle.nor_cell.specs.Bits.{has_bit}
 use Rattle.nor_bus.specs.Bus.{lane, units_of}
-use Rattle.nor_bus.specs.Driven.{Lost}
+use Rattle.nor_bus.specs.Driven.{Went, Lost}
 use Rattle.nor_poll.specs.Polled.{working_reads, polling_for}
 use Rattle.nor_bus.proofs.Driving.{went_none, lost_then, few_lanes, reaches_kept, lane_kept, own_kept}
 use Rattle.nor_poll.specs.Codes.{cycle_count}
 use Rattle.nor_poll.specs.Told.{seen_at}
 use Rattle.nor_poll.specs.Wait.{wait_most, wait_prompt}
-use Rattle.nor_poll.specs.Buffer.{LoadHalts, ReachesAll, EachLoad, TakesLoad, BeginsLoad, LosesLoad, TellsLoadBroken, load_of, load_begin, load_most, load_prompt, load_stuck, last_of}
+use Rattle.nor_poll.specs.Buffer.{DarkensLoad, load_sent, LoadHalts, ReachesAll, EachLoad, TakesLoad, BeginsLoad, LosesLoad, TellsLoadBroken, load_of, load_begin, load_most, load_prompt, load_stuck, last_of}
 use Rattle.nor_poll.specs.declared.lanes.Halt.TheVariants.{Off}
 use Rattle.nor_poll.specs.declared.codes.Command.TheVariants.{ClearErrors, ShowArray}
 use Rattle.nor_cell.proofs.Logic.{if_gave}
-use Rattle.nor_poll.proofs.Reading.{lost_reading}
+use Rattle.nor_poll.proofs.Reading.{lost_reading, dark_resting}
+use Rattle.nor_poll.specs.Reads.{EachSent}
+use Rattle.nor_poll.specs.Word.{program_reads}
 use Rattle.nor_poll.proofs.Sets.{views_all}
 use Rattle.nor_poll.proofs.Waiting.{ended_by}
 use Rattle.nor_poll.proofs.Wording.{past_lanes, counted_word}
 use Rattle.nor_poll.proofs.WordSending.{first_reached, word_at}
+use Rattle.nor_poll.proofs.Loading.{begins_load, loses_loading}
 use Rattle.nor_poll.proofs.Buffering.{PollsLoad, load_halts, load_done, tells, loses_ended, all_work_for, answers_begun, load_fits, prompt_fits, polled}
 use Rattle.nor_poll.proofs.buffer.program_buffer.Goals as goal
 
@@ -32,9 +35,10 @@ returns-in_err-begin_load-clause-halts g c =
     let first = load_begin set n in
     let fits = (load_fits {W = ℕ} set c.args.g 0 (polling_for set c.args.g 0) n c.args.limit refl).begun in
     if_gave c.from_residual.result Off (LoadHalts set width c.args.g c.args.at words c.args.limit old new) c.from_residual.ensures.1
-    (subst (λ (m : ℕ). Lost (load_most set m c.args.limit) old new × (ReachesAll width c.args.g c.args.at m old → EachLoad words (LosesLoad set c.args.at m) old new)) (sym count) (
-      lost_then 0 0 first (load_most set n c.args.limit) old old new (omega (arith, fits)) (went_none old) c.in_err-begin_load.ensures.lost,
-      c.in_err-begin_load.ensures.loses,
+    (subst (λ (m : ℕ). Lost (load_most set m c.args.limit) old new × (ReachesAll width c.args.g c.args.at m old → EachLoad words (LosesLoad set c.args.at m) old new) × (ReachesAll width c.args.g c.args.at m old → DarkensLoad set c.args.at m words c.args.limit old new)) (sym count) (
+      lost_then 0 first (load_most set n c.args.limit) old old new (omega (arith, fits)) (went_none old) c.in_err-begin_load.ensures.lost,
+      λ reaches. loses_loading set c.args.at n words old new (sym count) c.requires.few (c.in_err-begin_load.ensures.dark reaches),
+      λ reaches. inl (c.in_err-begin_load.ensures.dark reaches),
     ))
 
 pub returns-in_err-watch-clause-halts : goal.returns-in_err-watch-clause-halts
@@ -63,15 +67,16 @@ returns-in_err-watch-clause-halts g c =
     let back = λ (reaches : ReachesAll width c.args.g c.args.at (length words) old). subst (λ (m : ℕ). ReachesAll width c.args.g c.args.at m old) count reaches in
     let a = c.behind.result in
     if_gave c.from_residual-in_err-watch.result halt (LoadHalts set width c.args.g c.args.at words c.args.limit old last) c.from_residual-in_err-watch.ensures.1
-    (load_halts g.W.BusWord.bytes how set width c.args.at a c.args.limit (load_begin set n) c.args.g words old mid last halt
-    (subst (λ (m : ℕ). load_begin set n + wait_most how c.args.limit ≤ load_most set m c.args.limit) (sym count) (omega (arith, most)))
-    (subst (λ (m : ℕ). load_begin set n + working_reads how * c.args.limit ≡ load_stuck set m c.args.limit) (sym count) fits.stuck_at)
-    begun
-    (λ reaches. subst (λ (m : ℕ). EachLoad words (BeginsLoad set c.args.at m) old mid) (sym count) (c.in_ok-begin_load.ensures.begins (back reaches)))
+    (load_halts g.W.BusWord.bytes how set width c.args.at a c.args.limit c.args.g words old mid last halt
+    (subst (λ (m : ℕ). load_begin set m + wait_most how c.args.limit ≤ load_most set m c.args.limit) (sym count) (omega (arith, most)))
+    (subst (λ (m : ℕ). load_begin set m + working_reads how * c.args.limit ≡ load_stuck set m c.args.limit) (sym count) fits.stuck_at)
+    (subst (λ (m : ℕ). Went (load_begin set m) (load_begin set m) old mid) (sym count) begun)
+    (λ reaches. subst (λ (m : ℕ). EachLoad words (BeginsLoad set c.args.at m) old mid) (sym count) (begins_load set c.args.at n words old mid (sym count) c.requires.few (c.in_ok-begin_load.ensures.sent (back reaches))))
     (λ reaches. subst (λ (m : ℕ). (a ≡ last_of c.args.at m) × (a < units_of mid)) (sym count) (at (back reaches)))
     (λ reaches k below takes.
-    answers_begun set c.args.g g.W.BusWord.bytes new_word how c.args.at n a k words (lane old k) (lane mid k) polls_of (at (back reaches)).0 (c.in_ok-begin_load.ensures.begins (back reaches) k below)
+    answers_begun set c.args.g g.W.BusWord.bytes new_word how c.args.at n a k words (lane old k) (lane mid k) polls_of (at (back reaches)).0 (begins_load set c.args.at n words old mid (sym count) c.requires.few (c.in_ok-begin_load.ensures.sent (back reaches)) k below)
     (subst (λ (m : ℕ). TakesLoad set c.args.at m (lane old k)) count takes))
+    (λ reaches. subst (λ (m : ℕ). EachSent (load_sent set c.args.at m words) old mid) (sym count) (c.in_ok-begin_load.ensures.sent (back reaches))) fits.reads fits.works
     c.in_err-watch.ensures.halts)
 
 pub returns-in_err-end_program-clause-halts : goal.returns-in_err-end_program-clause-halts
@@ -101,21 +106,27 @@ returns-in_err-end_program-clause-halts g c =
     let most = wait_most how c.args.limit in
     let fits = (load_fits set c.args.g new_word how n c.args.limit c.polling_of-how.ensures).begun in
     if_gave c.from_residual-in_err-end_program.result Off (LoadHalts set width c.args.g c.args.at words c.args.limit old new) c.from_residual-in_err-end_program.ensures.1
-    (subst (λ (m : ℕ). Lost (load_most set m c.args.limit) old new × (ReachesAll width c.args.g c.args.at m old → EachLoad words (LosesLoad set c.args.at m) old new)) (sym count) (
-      lost_then first first (most + end) (load_most set n c.args.limit) old mid new (omega (arith, fits)) begun
+    (subst (λ (m : ℕ). Lost (load_most set m c.args.limit) old new × (ReachesAll width c.args.g c.args.at m old → EachLoad words (LosesLoad set c.args.at m) old new) × (ReachesAll width c.args.g c.args.at m old → DarkensLoad set c.args.at m words c.args.limit old new)) (sym count) (
+      lost_then first (most + end) (load_most set n c.args.limit) old mid new (omega (arith, fits)) begun
           (lost_reading 1 most end (most + end) mid last new (omega arith) c.in_ok-watch.ensures.went c.in_err-end_program.ensures.lost),
       λ reaches k below.
           let own = own_kept width c.args.g old mid begun.kept reaches.own in
           let later = reaches_kept width c.args.g c.args.at mid last c.in_ok-watch.ensures.went.went.kept
           (reaches_kept width c.args.g c.args.at old mid begun.kept (first_reached width c.args.g c.args.at n old reaches)) in
           let there = lane_kept old mid k begun.kept below in
-          let begins = c.in_ok-begin_load.ensures.begins reaches k below in
+          let begins = begins_load set c.args.at n words old mid (sym count) c.requires.few (c.in_ok-begin_load.ensures.sent reaches) k below in
           loses_ended set c.args.at n a (load_of (lane old k).part.device k words) (lane old k) (lane mid k) (lane last k) (lane new k) (seen_at c.in_ok-watch.watch.lanes k) begins
           (λ takes.
           ended_by how a (lane mid k) (lane last k) (seen_at c.in_ok-watch.watch.lanes k) (views_all set c.args.g new_word how (lane last k) c.polling_of-how.ensures)
           (c.in_ok-watch.ensures.ready own (at reaches).1 k there
           (answers_begun set c.args.g g.W.BusWord.bytes new_word how c.args.at n a k words (lane old k) (lane mid k) polls_of (at reaches).0 begins takes)))
           (c.in_err-end_program.ensures.loses later k (lane_kept mid last k c.in_ok-watch.ensures.went.went.kept there)),
+      λ reaches.
+          let later = reaches_kept width c.args.g c.args.at mid last c.in_ok-watch.ensures.went.went.kept
+          (reaches_kept width c.args.g c.args.at old mid begun.kept (first_reached width c.args.g c.args.at n old reaches)) in
+          inr (dark_resting (load_sent set c.args.at n words) first most (program_reads set c.args.limit) set c.args.at old mid last new
+          (load_fits set c.args.g new_word how n c.args.limit c.polling_of-how.ensures).reads begun (c.in_ok-begin_load.ensures.sent reaches) c.in_ok-watch.ensures.went
+          (c.in_err-end_program.ensures.dark later)),
     ))
 
 pub returns-clause-done : goal.returns-clause-done
@@ -145,7 +156,7 @@ returns-clause-done g c = λ reaches k below.
     (reaches_kept width c.args.g c.args.at old mid kept (first_reached width c.args.g c.args.at n old reaches)) in
     let few = few_lanes width c.args.g.device old.lanes reaches.own.bank in
     let there = lane_kept old mid k kept below in
-    let begins = c.in_ok-begin_load.ensures.begins reaches k below in
+    let begins = begins_load set c.args.at n words old mid (sym count) c.requires.few (c.in_ok-begin_load.ensures.sent reaches) k below in
     load_done set c.args.at n a (load_of (lane old k).part.device k words) c.broken_lanes-broken.result.bits k (lane old k) (lane mid k) (lane last k) (lane new k) (seen_at c.in_ok-watch.watch.lanes k) begins
     (λ takes.
     ended_by how a (lane mid k) (lane last k) (seen_at c.in_ok-watch.watch.lanes k) (views_all set c.args.g new_word how (lane last k) c.polling_of-how.ensures)
@@ -179,7 +190,7 @@ returns-clause-broken g c =
       told = λ all k below.
           let reaches = subst (λ (m : ℕ). ReachesAll width c.args.g c.args.at m old) count all in
           let few = few_lanes width c.args.g.device old.lanes reaches.own.bank in
-          let begins = c.in_ok-begin_load.ensures.begins reaches k below in
+          let begins = begins_load set c.args.at n words old mid (sym count) c.requires.few (c.in_ok-begin_load.ensures.sent reaches) k below in
           subst (λ (m : ℕ). TellsLoadBroken set c.args.at m (load_of (lane old k).part.device k words) (has_bit c.broken_lanes-broken.result.bits k) (lane old k)) (sym count)
           (tells set c.args.at n a (load_of (lane old k).part.device k words) (lane old k) (lane mid k) (lane last k) (seen_at c.in_ok-watch.watch.lanes k) _ begins
           (λ takes.
@@ -228,7 +239,7 @@ returns-clause-prompt g c = λ reaches most ends.
     let kept = c.in_ok-begin_load.ensures.went.kept in
     let a = c.behind.result in
     let at = polled width c.args.g c.args.at n a old mid c.behind.ensures kept c.in_ok-begin_load.ensures.small reaches in
-    let begins = c.in_ok-begin_load.ensures.begins reaches in
+    let begins = begins_load set c.args.at n words old mid (sym count) c.requires.few (c.in_ok-begin_load.ensures.sent reaches) in
     let polls =
     c.in_ok-watch.ensures.prompt (own_kept width c.args.g old mid kept reaches.own) at.1
     (λ k there.

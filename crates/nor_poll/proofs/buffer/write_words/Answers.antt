@@ -4,8 +4,9 @@ use Rattle.nor_bus.specs.Bus.{lane, lanes_of}
 use Rattle.nor_bus.specs.Driven.{Lost, Went}
 use Rattle.nor_bus.proofs.Driving.{lost_then}
 use Rattle.nor_poll.specs.Buffer.{ReachesAll, DarkensInWords}
-use Rattle.nor_poll.proofs.Reading.{on_err, darkens}
+use Rattle.nor_poll.proofs.Reading.{darkens}
 use Rattle.nor_poll.proofs.WordSending.{sent_none, next_word, word_at, sent_more, sent_dark, sent_all}
+use Rattle.nor_cell.proofs.Logic.{on_err}
 use Rattle.nor_poll.proofs.buffer.write_words.Goals as goal
 
 pub loop-k-init : goal.loop-k-init
@@ -30,7 +31,7 @@ returns-in_err-write_word-clause-lost g c =
     let new = g.B.Bus.state c.write_word.new.bus in
     let k = c.loop-k.k in
     on_err c.from_residual.result (Lost (length c.args.words.now) old new)
-    (lost_then k k 1 (length c.args.words.now) old (g.B.Bus.state c.loop-k.bus) new (omega arith) c.loop-k.invariant.went c.in_err-write_word.ensures.lost)
+    (lost_then k 1 (length c.args.words.now) old (g.B.Bus.state c.loop-k.bus) new (omega arith) c.loop-k.invariant.went c.in_err-write_word.ensures.lost)
 
 pub loop-k-preserved : goal.loop-k-preserved
 loop-k-preserved g c =

@@ -2,12 +2,12 @@ use Rattle.std.proofs.Common.{arith, ◌<◌, ℕ, subst, sym, refl}
 use Rattle.nor_cell.specs.Bits.{unit_len}
 use Rattle.nor_word.specs.Word.{lane_of}
 use Rattle.nor_bus.specs.Bus.{lane, wide}
-use Rattle.nor_bus.specs.Driven.{Lost}
 use Rattle.nor_bus.proofs.Driving.{own_kept, device_of, lane_kept}
 use Rattle.nor_poll.specs.Reads.{DarkensReading}
 use Rattle.nor_poll.proofs.Showing.{told_first, told_data, told_wide}
-use Rattle.nor_poll.proofs.Reading.{on_err, read_then, lost_reading, dark_then}
+use Rattle.nor_poll.proofs.Reading.{read_then, dark_then, dark_within}
 use Rattle.nor_poll.proofs.Telling.{lane_read, all_ready}
+use Rattle.nor_cell.proofs.Logic.{on_err}
 use Rattle.nor_poll.proofs.data.data_poll.Goals as goal
 
 pub returns-then-all_shown-clause-told : goal.returns-then-all_shown-clause-told
@@ -22,12 +22,11 @@ returns-then-all_shown-clause-told g c = λ own within k below.
     (lane_read width c.args.g old new at k (g.W.BusWord.bytes c.in_ok-first.first) own below (c.in_ok-first.ensures.answers within k below))
     (c.if-all_shown.ensures refl k (subst (λ (n : ℕ). k < n) own.count below)) (all_ready k))
 
-pub returns-in_err-second-clause-lost : goal.returns-in_err-second-clause-lost
-returns-in_err-second-clause-lost g c =
+pub returns-in_err-first-clause-dark : goal.returns-in_err-first-clause-dark
+returns-in_err-first-clause-dark g c =
     let old = g.B.Bus.state c.args.bus.now in
-    let mid = g.B.Bus.state c.look.new.bus in
-    let new = g.B.Bus.state c.look-2.new.bus in
-    on_err c.from_residual-in_err-second.result (Lost 2 old new) (lost_reading 1 1 1 2 old mid new (omega arith) c.in_ok-first.ensures.went c.in_err-second.ensures.lost)
+    let new = g.B.Bus.state c.look.new.bus in
+    on_err c.from_residual.result (DarkensReading 2 old new) (dark_within 1 2 old new (omega arith) c.in_err-first.ensures.dark)
 
 pub returns-in_err-second-clause-dark : goal.returns-in_err-second-clause-dark
 returns-in_err-second-clause-dark g c =

@@ -7,8 +7,9 @@ use Rattle.nor_bus.proofs.Driving.{few_lanes, device_of, part_reached}
 use Rattle.nor_poll.specs.Resume.{TakesResume, resume_code}
 use Rattle.nor_poll.specs.Erase.{ChangesWithinErase}
 use Rattle.nor_poll.specs.UnderErase.{EachUnder, state_at}
-use Rattle.nor_poll.proofs.Reading.{on_err, darkens}
+use Rattle.nor_poll.proofs.Reading.{darkens}
 use Rattle.nor_poll.proofs.ResumeLane.{resumes, loses_resume}
+use Rattle.nor_cell.proofs.Logic.{on_err}
 use Rattle.nor_poll.proofs.resuming.resume.Goals as goal
 
 pub returns-in_err-write_word-clause-loses : goal.returns-in_err-write_word-clause-loses

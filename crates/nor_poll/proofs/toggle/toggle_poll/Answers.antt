@@ -2,22 +2,21 @@ use Rattle.std.proofs.Common.{arith, inl, inr, ◌<◌, ℕ, subst, sym, refl, �
 use Rattle.nor_cell.specs.Bits.{unit_len}
 use Rattle.nor_word.specs.Word.{lane_of}
 use Rattle.nor_bus.specs.Bus.{lane}
-use Rattle.nor_bus.specs.Driven.{Lost}
 use Rattle.nor_bus.proofs.Driving.{own_kept, lane_kept}
 use Rattle.nor_poll.specs.Reads.{DarkensReading}
 use Rattle.nor_poll.specs.Told.{seen_at}
 use Rattle.nor_poll.specs.declared.watch.Seen.TheVariants.{Working}
 use Rattle.nor_poll.proofs.Answering.{told_pair, told_over, over_works}
-use Rattle.nor_poll.proofs.Reading.{on_err, read_then, lost_reading, dark_then}
+use Rattle.nor_poll.proofs.Reading.{read_then, dark_then, dark_within}
 use Rattle.nor_poll.proofs.Telling.{lane_read}
+use Rattle.nor_cell.proofs.Logic.{on_err}
 use Rattle.nor_poll.proofs.toggle.toggle_poll.Goals as goal
 
-pub returns-in_err-second-clause-lost : goal.returns-in_err-second-clause-lost
-returns-in_err-second-clause-lost g c =
+pub returns-in_err-first-clause-dark : goal.returns-in_err-first-clause-dark
+returns-in_err-first-clause-dark g c =
     let old = g.B.Bus.state c.args.bus.now in
-    let mid = g.B.Bus.state c.look.new.bus in
-    let new = g.B.Bus.state c.look-2.new.bus in
-    on_err c.from_residual-in_err-second.result (Lost 3 old new) (lost_reading 1 1 1 3 old mid new (omega arith) c.in_ok-first.ensures.went c.in_err-second.ensures.lost)
+    let new = g.B.Bus.state c.look.new.bus in
+    on_err c.from_residual.result (DarkensReading 3 old new) (dark_within 1 3 old new (omega arith) c.in_err-first.ensures.dark)
 
 pub returns-in_err-second-clause-dark : goal.returns-in_err-second-clause-dark
 returns-in_err-second-clause-dark g c =
@@ -52,15 +51,6 @@ pub returns-then-not-just_ended-clause-late : goal.returns-then-not-just_ended-c
 returns-then-not-just_ended-clause-late g c = λ own within shows. inl (
     read_then 1 1 1 1 2 2 (g.B.Bus.state c.args.bus.now) (g.B.Bus.state c.look.new.bus) (g.B.Bus.state c.look-2.new.bus) (omega arith) (omega arith) c.in_ok-first.ensures.went c.in_ok-second.ensures.went
     )
-
-pub returns-in_err-third-clause-lost : goal.returns-in_err-third-clause-lost
-returns-in_err-third-clause-lost g c =
-    let old = g.B.Bus.state c.args.bus.now in
-    let mid = g.B.Bus.state c.look.new.bus in
-    let last = g.B.Bus.state c.look-2.new.bus in
-    let new = g.B.Bus.state c.look-3.new.bus in
-    let two = read_then 1 1 1 1 2 2 old mid last (omega arith) (omega arith) c.in_ok-first.ensures.went c.in_ok-second.ensures.went in
-    on_err c.from_residual-in_err-third.result (Lost 3 old new) (lost_reading 2 2 1 3 old last new (omega arith) two c.in_err-third.ensures.lost)
 
 pub returns-in_err-third-clause-dark : goal.returns-in_err-third-clause-dark
 returns-in_err-third-clause-dark g c =

@@ -5,8 +5,8 @@ use Rattle.nor_bus.specs.Bus.{lane}
 use Rattle.nor_bus.specs.Driven.{Lost}
 use Rattle.nor_bus.proofs.Driving.{lost_then}
 use Rattle.nor_lane.specs.Candidates.{candidates_of}
-use Rattle.nor_probe.proofs.Asked.{on_err}
 use Rattle.nor_probe.proofs.Shown.{asked_rests, tried_asks, tried_counted, tried_and_seven, tried_more, tried_found, next_wiring, candidate_fits}
+use Rattle.nor_cell.proofs.Logic.{on_err}
 use Rattle.nor_probe.proofs.find.answering.Goals as goal
 
 pub returns-in_err-shows-clause-lost : goal.returns-in_err-shows-clause-lost
@@ -15,7 +15,7 @@ returns-in_err-shows-clause-lost g c =
     let now = g.B.Bus.state c.loop-i.bus in
     let new = g.B.Bus.state c.try_wiring.new.bus in
     let few = c.as_slice-wirings.ensures.fits in
-    on_err c.from_residual.result (Lost 21 old new) (lost_then (7 * c.loop-i.i) (7 * c.loop-i.i) 7 21 old now new (omega arith) c.loop-i.invariant.tried.went c.in_err-shows.ensures.lost)
+    on_err c.from_residual.result (Lost 21 old new) (lost_then (7 * c.loop-i.i) 7 21 old now new (omega arith) c.loop-i.invariant.tried.went c.in_err-shows.ensures.lost)
 
 pub returns-then-shows-clause-counted : goal.returns-then-shows-clause-counted
 returns-then-shows-clause-counted g c =

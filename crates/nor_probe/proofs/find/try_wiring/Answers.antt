@@ -2,8 +2,8 @@ use Rattle.std.proofs.Common.{◌<◌, ◌∙◌, ℕ, arith, subst}
 use Rattle.nor_bus.specs.Bus.{lane}
 use Rattle.nor_bus.specs.Driven.{Lost}
 use Rattle.nor_bus.proofs.Driving.{went_then, lost_then}
-use Rattle.nor_probe.proofs.Asked.{on_err}
 use Rattle.nor_probe.proofs.Shown.{asked_stays, asked_shows, shows_kept}
+use Rattle.nor_cell.proofs.Logic.{on_err}
 use Rattle.nor_probe.proofs.find.try_wiring.Goals as goal
 
 pub returns-in_err-shows-clause-lost : goal.returns-in_err-shows-clause-lost
@@ -11,7 +11,7 @@ returns-in_err-shows-clause-lost g c =
     let old = g.B.Bus.state c.args.bus.now in
     let mid = g.B.Bus.state c.ask.new.bus in
     let new = g.B.Bus.state c.shows_qry.new.bus in
-    on_err c.from_residual-in_err-shows.result (Lost 7 old new) (lost_then 4 4 3 7 old mid new (omega arith) c.in_ok-ask.ensures.went c.in_err-shows.ensures.lost)
+    on_err c.from_residual-in_err-shows.result (Lost 7 old new) (lost_then 4 3 7 old mid new (omega arith) c.in_ok-ask.ensures.went c.in_err-shows.ensures.lost)
 
 pub returns-clause-went : goal.returns-clause-went
 returns-clause-went g c =

@@ -3,9 +3,9 @@ use Rattle.std.specs.Result.{result_err}
 use Rattle.nor_bus.specs.Driven.{Lost}
 use Rattle.nor_probe.specs.Tables.{table_read}
 use Rattle.nor_probe.specs.declared.error.ProbeError.{ProbeError}
-use Rattle.nor_probe.proofs.Asked.{on_err}
 use Rattle.nor_bus.proofs.Counting.{counted_then, counted_lost}
 use Rattle.nor_probe.proofs.Looking.{answers_of, read_rests, common_table, lanes_refused}
+use Rattle.nor_cell.proofs.Logic.{on_err}
 use Rattle.nor_probe.proofs.probing.look.Goals as goal
 
 pub returns-in_err-table-clause-lost : goal.returns-in_err-table-clause-lost

@@ -1,4 +1,5 @@
-use Rattle.std.proofs.Common.{◌≡◌, ◌∙◌, sym, arith, Some}
+use Rattle.std.proofs.Common.{◌≡◌, ◌∙◌, sym, subst, arith, Some}
+use Rattle.nor_cell.specs.declared.geometry.Geometry.{Geometry}
 use Rattle.nor_probe.specs.Probed.{refusal, IsCommonTable, IsFoundBy}
 use Rattle.nor_bus.proofs.Counting.{counted_lost}
 use Rattle.nor_probe.proofs.OwnTables.{shows_itself, own_found, accepts}
@@ -30,12 +31,18 @@ returns-in_err-geometry-clause-accepted g c = λ own table well rests all passes
 
 pub returns-in_err-geometry-clause-counted : goal.returns-in_err-geometry-clause-counted
 returns-in_err-geometry-clause-counted g c = λ on.
-    counted_more 522 2 524 (g.B.Bus.state c.args.bus.now) (g.B.Bus.state c.look.new.bus) (g.B.Bus.state c.reset.new.bus) (omega arith) c.in_ok-seen.ensures.counted c.in_ok-reset.ensures.went
+    counted_more 522 2 1 524 (g.B.Bus.state c.args.bus.now) (g.B.Bus.state c.look.new.bus) (g.B.Bus.state c.reset.new.bus) (omega arith) (omega arith) c.in_ok-seen.ensures.counted c.in_ok-reset.ensures.went
 
 -- ---- a table that all lanes show
 
 pub returns-clause-shown : goal.returns-clause-shown
 returns-clause-shown g c = λ own. shows_itself g.W.BusWord.WIDTH own (g.B.Bus.state c.args.bus.now)
+
+pub returns-clause-table : goal.returns-clause-table
+returns-clause-table g c =
+    then_ok c.found_of.result (IsFoundBy c.in_ok-geometry.geometry c.in_ok-geometry.table) _
+    (λ found says.
+    record { table = c.in_ok-geometry.table; says = subst (λ (own : Geometry). IsFoundBy own c.in_ok-geometry.table found) (sym says.wiring) says }) c.found_of.ensures.found
 
 pub returns-clause-found : goal.returns-clause-found
 returns-clause-found g c =
@@ -62,7 +69,7 @@ returns-clause-accepted g c = λ own table well rests all passes on.
 
 pub returns-clause-counted : goal.returns-clause-counted
 returns-clause-counted g c = λ on.
-    counted_more 522 2 524 (g.B.Bus.state c.args.bus.now) (g.B.Bus.state c.look.new.bus) (g.B.Bus.state c.reset.new.bus) (omega arith) c.in_ok-seen.ensures.counted c.in_ok-reset.ensures.went
+    counted_more 522 2 1 524 (g.B.Bus.state c.args.bus.now) (g.B.Bus.state c.look.new.bus) (g.B.Bus.state c.reset.new.bus) (omega arith) (omega arith) c.in_ok-seen.ensures.counted c.in_ok-reset.ensures.went
 
 pub returns-clause-lanes : goal.returns-clause-lanes
 returns-clause-lanes g c = λ on.

@@ -3,8 +3,8 @@ use Rattle.std.specs.Result.{result_err}
 use Rattle.nor_bus.specs.Driven.{Lost}
 use Rattle.nor_probe.specs.Tables.{table_word, low_byte}
 use Rattle.nor_probe.specs.declared.error.ProbeError.{ProbeError}
-use Rattle.nor_probe.proofs.Asked.{on_err}
 use Rattle.nor_probe.proofs.TablesRead.{ReadSoFar, read_none, read_more, read_whole, none_first, this_first, read_counted, read_lost, next_counted, stays_more}
+use Rattle.nor_cell.proofs.Logic.{on_err}
 use Rattle.nor_probe.proofs.tables.read_table.Goals as goal
 
 pub loop-offset-init : goal.loop-offset-init

@@ -9,5 +9,5 @@ returns-in-Read-clause-runs g c =
 
 pub returns-in-Program-clause-runs : goal.returns-in-Program-clause-runs
 returns-in-Program-clause-runs g c =
-    program_runs c.args.bank.now c.program-reply.new.self c.args.caller c.in-Program.at c.args.position c.as_slice.result.now c.args.op.now c.program-reply.result _ _ c.put_reply.result
-    (c.in-Program.is ∙ ap (Program c.in-Program.at) (sym c.as_slice.ensures)) c.program-reply.ensures.call c.put_reply.ensures.puts
+    program_runs g.T.Taker.takes c.args.bank.now c.program-reply.new.self c.args.caller c.in-Program.at c.args.position c.as_slice.result.now c.args.op.now c.program-reply.result _ _ c.hand_over.result
+    (c.in-Program.is ∙ ap (Program c.in-Program.at) (sym c.as_slice.ensures)) c.program-reply.ensures.call c.hand_over.ensures

@@ -1,15 +1,15 @@
 use Rattle.std.proofs.Common.{◌∙◌, sym, ap, subst}
 use Rattle.nor_cell.proofs.Logic.{is_none}
-use Rattle.nor_bank.specs.State.{BankState, IsDark}
-use Rattle.nor_bank.proofs.Called.{refused_if, kept_call}
+use Rattle.nor_bank.specs.State.{BankState, IsBankOf}
+use Rattle.nor_bank.proofs.RefusedCalls.{touched_if, kept_call}
 use Rattle.nor_bank.proofs.bank.Bank.refuse.Goals as goal
 
 pub returns-then-is_some-clause-call : goal.returns-then-is_some-clause-call
-returns-then-is_some-clause-call g c = refused_if c.args.self.now c.args.refusal
+returns-then-is_some-clause-call g c = touched_if c.args.self.now c.args.refusal
 
 pub returns-in-Some-clause-call : goal.returns-in-Some-clause-call
-returns-in-Some-clause-call g c = λ caller op given own other is.
-    kept_call c.args.self.now c.stay.new.self caller op c.in-Some.cause given own other
+returns-in-Some-clause-call g c = λ caller op given other is.
+    kept_call g.W.BusWord.WIDTH caller c.args.self.now c.stay.new.self op c.in-Some.cause given other
     (is ∙ is_none c.args.refusal (sym c.is_some.ensures ∙ c.if-is_some.false))
     (sym (ap (λ (b : BankState). b.halted) c.self.view_is) ∙ c.in-Some.is)
-    (subst (λ (b : BankState). IsDark b.halted b.bus) c.self.view_is c.self.invariant.dark) c.stay.ensures.same c.stay.ensures.stays
+    (subst (λ (b : BankState). IsBankOf g.W.BusWord.WIDTH b.bus b.found b.halted b.erase) c.self.view_is c.self.invariant) c.stay.ensures.same c.stay.ensures.stays

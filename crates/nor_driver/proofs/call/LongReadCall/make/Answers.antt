@@ -1,7 +1,8 @@
 use Rattle.std.proofs.Common.{◌≡◌, ℕ, List, refl, subst}
 use Rattle.std.specs.Prelude.{IfSome}
 use Rattle.nor_array.specs.declared.entry.Op.TheVariants.{Read as ReadOp}
-use Rattle.nor_bank.specs.Calls.{IsCall, entry_of}
+use Rattle.nor_bank.specs.Calls.{entry_of}
+use Rattle.nor_bank.specs.Whole.{IsCallOf}
 use Rattle.nor_bank.specs.State.{size_of}
 use Rattle.nor_bank.specs.Work.{range_refusal}
 use Rattle.nor_bank.proofs.Keeping.{keeps_self}
@@ -18,5 +19,5 @@ returns g c =
     let made : MakesRange bank bank (entry_of bank bank c.args._caller (ReadOp at len) r c.args._into.now) =
     long_makes bank c.args._caller at len c.args._into.now refusal r c.unwrap.ensures
     (subst (λ (n : ℕ). refusal ≡ range_refusal (size_of bank.found) at n) c.from.ensures c.range_refusal.ensures.refusal)
-    (subst (λ (n : ℕ). IfSome refusal (λ x. (k : ℕ) (bytes : List ℕ) → IsCall k (ReadOp at n) bank bank x bytes)) c.from.ensures c.range_refusal.ensures.call) in
+    (subst (λ (n : ℕ). IfSome refusal (λ x. (k : ℕ) (bytes : List ℕ) → IsCallOf k (ReadOp at n) bank bank x bytes)) c.from.ensures c.range_refusal.ensures.call) in
     record { makes = made.makes; rests = made.rests; some = made.some; keeps = keeps_self bank; length = refl }

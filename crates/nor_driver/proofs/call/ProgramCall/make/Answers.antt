@@ -1,4 +1,4 @@
-use Rattle.std.proofs.Common.{refl}
+use Rattle.std.proofs.Common.{[], refl}
 use Rattle.nor_bank.proofs.Keeping.{keeps_call}
 use Rattle.nor_driver.proofs.Calls.{MakesRange, program_makes}
 use Rattle.nor_bank.specs.Calls.{entry_of}
@@ -13,4 +13,4 @@ returns g c =
     let call = c.program.ensures.call in
     let made : MakesRange old new (entry_of old new c.args.caller (ProgramOp c.args.self.now.at c.args.self.now.from.now) r c.args._into.now) =
     program_makes old new c.args.caller c.args.self.now.at c.args.self.now.from.now c.args._into.now r call in
-    record { makes = made.makes; rests = made.rests; some = made.some; keeps = keeps_call old new r call.keeps; length = refl }
+    record { makes = made.makes; rests = made.rests; some = made.some; keeps = keeps_call c.args.caller (ProgramOp c.args.self.now.at c.args.self.now.from.now) old new r call.leaves; length = refl }

@@ -1,4 +1,4 @@
-use Rattle.std.proofs.Common.{length}
+use Rattle.std.proofs.Common.{length, refl}
 use Rattle.nor_bank.proofs.Keeping.{keeps_call}
 use Rattle.nor_driver.proofs.Calls.{MakesRange, read_makes}
 use Rattle.nor_bank.specs.Calls.{entry_of}
@@ -14,5 +14,5 @@ returns g c =
     let r = c.read.result in
     let does = c.read.ensures in
     let made : MakesRange old new (entry_of old new c.args.caller (ReadOp at len) r c.read.new.into) =
-    read_makes old new c.args.caller at len c.read.new.into r does.call does.exact in
-    record { makes = made.makes; rests = made.rests; some = made.some; keeps = keeps_call old new r does.call.keeps; length = does.length }
+    read_makes old new c.args.caller at len c.read.new.into r does.call does.done in
+    record { makes = made.makes; rests = made.rests; some = made.some; keeps = keeps_call c.args.caller (ReadOp at len) old new r does.call.leaves; length = does.length }
