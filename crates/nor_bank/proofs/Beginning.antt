@@ -1,7 +1,7 @@
 -- What is known of a call that nothing refuses.
-use Rattle.std.proofs.Common.{◌≡◌, ◌<◌, ◌≤◌, ◌+◌, ℕ, zero, suc, List, [], ◌∷◌, length, refl, sym, ◌∙◌, ap, subst, arith, Bool, true, false, ◌==◌, Option, Some, None}
-use Rattle.std.specs.Prelude.{nat_lt, if◌then◌else◌}
-use Rattle.std.proofs.lemmas.Bool.{ltb-false, le-leb, and_from}
+use Rattle.std.proofs.Common.{◌≡◌, ◌<◌, ◌≤◌, ◌+◌, ℕ, zero, suc, List, ◌∷◌, length, refl, sym, ◌∙◌, ap, subst, arith, Bool, true, false, ◌==◌, Option, Some, None}
+use Rattle.std.specs.Prelude.{if◌then◌else◌}
+use Rattle.std.proofs.lemmas.Bool.{le-leb, and_from}
 use Rattle.nor_cell.specs.Chip.{covered, blocks_end, block, block_at, is_within}
 use Rattle.nor_cell.specs.declared.device.Span.{Span}
 use Rattle.nor_cell.proofs.Logic.{not_passed, passes_below}
@@ -26,16 +26,17 @@ use Rattle.nor_bank.specs.Refused.{outline, kept_cut, Works, is_own}
 use Rattle.nor_bank.specs.Stands.{Stands, kept_power, under_of, is_under}
 use Rattle.nor_bank.specs.State.{BankState, size_of, blocks_of}
 use Rattle.nor_bank.specs.Way.{IsOfBlock}
-use Rattle.nor_bank.specs.Work.{refusal_of, reach_refusal, range_refusal}
+use Rattle.nor_bank.specs.Work.{refusal_of, reach_refusal}
 use Rattle.nor_bank.specs.declared.kept.Erasing.{Erasing}
 use Rattle.nor_bank.proofs.Blocks.{touching, none_passes}
 use Rattle.nor_bank.proofs.Known.{blocks_follow}
 use Rattle.nor_bank.proofs.Meeting.{open_block}
 use Rattle.nor_bank.proofs.RefusalOrder.{touched_first}
+pub use Rattle.nor_bank.proofs.Refusing.{LiesIn, lies_in}
 
 -- ---- none of the refusals holds
 
-none_first : (first : Option Reply) (later : List (Option Reply)) → first_some (first ∷ later) ≡ None → (first ≡ None) × (first_some later ≡ None)
+pub none_first : (first : Option Reply) (later : List (Option Reply)) → first_some (first ∷ later) ≡ None → (first ≡ None) × (first_some later ≡ None)
 none_first None later none = (refl, none)
 none_first (Some r) later none = absurd (cc)
 
@@ -94,23 +95,6 @@ may_work caller op b works =
       own = idle_own op works.busy;
       beside = open_erase.0;
     }
-
--- ---- the range of a call lies in the bank
-
--- and isn't too long
-pub record LiesIn (size at len : ℕ) : Type 0 where
-  pub within : at + len ≤ size
-  pub short : len ≤ 4096
-
-lies_by : (outside long : Bool) → first_some (when outside OutOfRange ∷ when long TooLong ∷ []) ≡ None → (outside ≡ false) × (long ≡ false)
-lies_by true long e = absurd (cc)
-lies_by false true e = absurd (cc)
-lies_by false false e = (refl, refl)
-
-pub lies_in : (size at len : ℕ) → range_refusal size at len ≡ None → LiesIn size at len
-lies_in size at len none =
-    let parts = lies_by (nat_lt size (at + len)) (nat_lt 4096 len) none in
-    record { within = ltb-false size (at + len) parts.0; short = ltb-false 4096 len parts.1 }
 
 -- ---- what is under erase isn't touched
 
@@ -175,11 +159,11 @@ range_beside caller op b a at len p works stands reach no_chip low high = by b.e
         ∙ apart_by b at len p low high e.target inside.within
         (ap (λ (r : Reach). touched_open e.target (outline b) r) (sym reach) ∙ untouched caller op b e works is no_chip))
 
--- An erase of all blocks is in the way of every call that works, but a poll.
 pub some_range : (len : ℕ) → (len == 0) ≡ false → 0 < len
 some_range zero busy = absurd (cc)
 some_range (suc n) busy = omega arith
 
+-- An erase of all blocks is in the way of every call that works, but a poll.
 not_all : (caller : ℕ) (op : Op) (b : BankState) (e : Erasing) → Works caller op b → (op ≡ Poll → ⊥) → b.erase ≡ Some e → e.target ≡ AllBlocks → ⊥
 not_all caller op b e works unpolled is all = go op refl
   where

@@ -24,7 +24,7 @@ use Rattle.nor_bank.specs.Work.{with_bus}
 use Rattle.nor_bank.specs.declared.kept.Erasing.{Erasing}
 use Rattle.nor_bank.proofs.Holding.{fits, holds_all, stands_by}
 use Rattle.nor_bank.proofs.Known.{known_own}
-use Rattle.nor_bank.proofs.LocksLosing.{lost_within}
+use Rattle.nor_bank.proofs.Using.{lost_within}
 use Rattle.nor_bank.proofs.LookingLanes.{closed_of}
 use Rattle.nor_bank.proofs.PausingBank.{paused}
 use Rattle.nor_bank.proofs.PausingLanes.{passes_idle}

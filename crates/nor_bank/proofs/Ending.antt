@@ -12,7 +12,7 @@ use Rattle.nor_bus.specs.Driven.{AllLanes, EachLane, Went, Lost, Counted}
 use Rattle.nor_array.specs.Array.{ArrayState, open_span}
 use Rattle.nor_array.specs.declared.state.OpenErase.{OpenErase}
 use Rattle.nor_array.specs.After.{after, after_opened}
-use Rattle.nor_array.specs.Admits.{EndsUnlocked, AsksChips, Answers, Unrefused, HasItsCaller, AreUncertain, IsArmed, WorkLeaves, HaltLeaves, first_locked, may_come}
+use Rattle.nor_array.specs.Admits.{EndsUnlocked, AsksChips, Answers, Unrefused, AreUncertain, IsArmed, WorkLeaves, HaltLeaves, first_locked, may_come}
 use Rattle.nor_array.specs.Legal.{ReplyAgrees, SticksAtWork}
 use Rattle.nor_array.specs.Needs.{needs_of}
 use Rattle.nor_array.specs.declared.entry.Halted.{Halted as HaltCause}
@@ -20,25 +20,27 @@ use Rattle.nor_array.specs.declared.entry.Halted.TheVariants.{Off, Stuck}
 use Rattle.nor_array.specs.declared.entry.Op.{Op}
 use Rattle.nor_array.specs.declared.entry.Op.TheVariants.{Read, Program, EraseOpen, EraseAll, Poll, Lock, Unlock, IsLocked, Arm, PowerOn}
 use Rattle.nor_array.specs.declared.entry.Reply.{Reply}
-use Rattle.nor_array.specs.declared.entry.Reply.TheVariants.{Opened, NotYet, Halted, Locked}
+use Rattle.nor_array.specs.declared.entry.Reply.TheVariants.{Opened, NotYet, Halted}
 use Rattle.nor_bus.proofs.Driving.{went_then, lost_then, keeps_then, lane_kept}
 use Rattle.nor_poll.specs.UnderErase.{erase_left}
 use Rattle.nor_bank.specs.Calls.{entry_of, entry_bytes, facts_of, left_by_halt, left_in_erase, left_of}
-use Rattle.nor_bank.specs.Counts.{is_open, Asked, call_most, may_suspend, erases_after, Spends, EndsErase, Counts, GoesOn, KeepsErase, IsNew, Waits, ReadsStuck}
-use Rattle.nor_bank.specs.Refused.{Works, is_own}
+use Rattle.nor_bank.specs.Counts.{is_open, Asked, call_most, may_suspend, erases_after, start_left, Spends, LeftIn, EndsErase, Counts, GoesOn, KeepsErase, IsNew, Waits, ReadsStuck}
+use Rattle.nor_bank.specs.Refused.{Works}
 use Rattle.nor_bank.specs.Stands.{Stands, IsKnown, PowerIs, under_of}
 use Rattle.nor_bank.specs.State.{BankState}
 use Rattle.nor_bank.specs.Way.{Holds, BeginsWork, BeginsChange, IsReady, MayCountSuspend, halting}
-use Rattle.nor_bank.specs.Whole.{IsCallOf, LeavesBank, leaves_quiet, may_answer}
+use Rattle.nor_bank.specs.Whole.{IsCallOf, LeavesBank, MayAnswer, leaves_quiet}
 use Rattle.nor_bank.specs.Work.{with_bus}
 use Rattle.nor_bank.specs.declared.kept.Erasing.{Erasing}
-use Rattle.nor_bank.proofs.Holding.{spared_by, locks_by, is_armed, bytes_small, halt_bytes, left_count, left_is, stands_halted}
+use Rattle.nor_bank.proofs.Holding.{spared_by, locks_by, bytes_small, halt_bytes, left_count, left_is, stands_halted}
 use Rattle.nor_bank.proofs.HoldingLanes.{Serves, left_served}
 use Rattle.nor_bank.proofs.Beginning.{may_work, closed_before}
+use Rattle.nor_bank.proofs.RefusedCalls.{own_caller}
 use Rattle.nor_bank.proofs.Refusing.{stuck_lane}
 use Rattle.nor_bank.proofs.Outlines.{refuses_as_array}
+use Rattle.nor_bank.proofs.Served.{is_armed}
 use Rattle.nor_bank.proofs.Standing.{is_on_now}
-pub use Rattle.nor_bank.proofs.EndingReplies.{answers_halt, answers_wait, answers_locked, opens_may, polls, goes_on, not_halted, not_waiting, kept_on, suspends_on, ends_none, no_pause, suspends_alike, not_long, quiet_pauses, quiet_left, ends_work, ends_goes, erases_on, asks_ends, keeps_failed, keeps_on, opens_unlocked, opens_other, opens_ends, opens_quiet}
+pub use Rattle.nor_bank.proofs.EndingReplies.{answers_off, answers_stuck, answers_wait, answers_locked, opens_may, polls, goes_on, not_halted, not_waiting, kept_on, suspends_on, ends_none, no_pause, suspends_alike, not_long, quiet_pauses, falls_in, left_then, ends_work, ends_goes, erases_on, asks_ends, keeps_failed, keeps_on, opens_none, opens_unlocked, opens_other, opens_ends, opens_quiet}
 
 -- ---- a call that works
 
@@ -55,25 +57,13 @@ pub record WorksFor (caller : ℕ) (op : Op) (old new : BankState) (reply : Repl
 pub record Worked (caller : ℕ) (op : Op) (old new : BankState) (reply : Reply) (given : List ℕ) : Type 0 where
   pub works : Works caller op old
   pub running : old.halted ≡ None
-  pub answers : may_answer op reply ≡ true
+  pub answers : MayAnswer op old reply
   pub makes : (a : ArrayState) → Stands old a → WorksFor caller op old new reply given a
   pub leaves : LeavesBank caller op old new reply
   pub spends : Spends op reply old new
   pub off : (n : ℕ) → reply ≡ Halted (Off n) → more 1 old.bus.failed ≤ new.bus.failed
   pub after : (n : ℕ) → reply ≡ Halted (Off n) → n ≡ old.after
   pub stuck : (k : ℕ) → reply ≡ Halted (Stuck k) → ReadsStuck op old new
-
-pub own_caller : (op : Op) (caller : ℕ) → is_own op ≡ false → HasItsCaller op caller
-own_caller (Arm cut mask) caller other = absurd (cc)
-own_caller PowerOn caller other = absurd (cc)
-own_caller (Read at len) caller other = tt
-own_caller (Program at new) caller other = tt
-own_caller (EraseOpen k) caller other = tt
-own_caller EraseAll caller other = tt
-own_caller Poll caller other = tt
-own_caller (Lock k) caller other = tt
-own_caller (Unlock k) caller other = tt
-own_caller (IsLocked k) caller other = tt
 
 pub worked_call : (caller : ℕ) (op : Op) (old new : BankState) (reply : Reply) (given : List ℕ) → Worked caller op old new reply given
     → IsCallOf caller op old new reply given
@@ -115,11 +105,11 @@ record GoesOnFor (n caller : ℕ) (op : Op) (old mid new : BankState) (reply : R
   stands : Stands new (after a (entry_of old new caller op reply given))
   erases : EachLane (λ s t. t.erases ≡ erases_after reply s.erases) mid.bus new.bus
   suspends : EachLane (λ s t. t.suspends ≡ s.suspends) mid.bus new.bus
-  left : is_open new.erase ≡ true → EachLane (λ s t. erase_left s ≤ erase_left t + n) mid.bus new.bus
+  left : EachLane (LeftIn n op reply) mid.bus new.bus
   rests : leaves_quiet op reply ≡ true → AllLanes (λ s. s.job ≡ Idle) new.bus
 
 begun_call : (programs : Bool) (most n caller : ℕ) (op : Op) (old mid new : BankState) (reply : Reply) (given : List ℕ)
-    → BeginsWork programs most caller op old mid → (needs_of op).unlocked ≡ programs → polls op ≡ false → goes_on reply ≡ true → may_answer op reply ≡ true
+    → BeginsWork programs most caller op old mid → (needs_of op).unlocked ≡ programs → polls op ≡ false → goes_on reply ≡ true → MayAnswer op old reply
     → new.found ≡ mid.found → new.after ≡ mid.after → new.halted ≡ mid.halted → KeepsErase caller op reply old.erase new.erase
     → Went n n mid.bus new.bus → most + n ≤ call_most op old
     → ((a : ArrayState) → Stands old a → Stands mid a → IsReady programs mid → GoesOnFor n caller op old mid new reply given a)
@@ -165,12 +155,11 @@ begun_call programs most n caller op old mid new reply given begins unlocked oth
         cycles = m + n;
         few = omega (arith, fit, few);
         asked = inl (went_then m m n n (m + n) (m + n) old.bus mid.bus new.bus (omega arith) (omega arith) begins.went went);
-        left = λ a stands opened c below.
+        left = λ a stands c below.
             let way = begins.stands a stands in
             let made = makes a stands way.stands (way.ready refl) in
-            let first = (way.each c below).left in
-            let rest = made.left opened c (there c below) in
-            omega (arith, first, rest);
+            let each = way.each c below in
+            left_then m n op reply (lane old.bus c) (lane mid.bus c) (lane new.bus c) each.remains.part each.left (made.left c (there c below));
         ends = λ a stands. ends_none op reply (m + n) old other;
       };
       off = λ k is. absurd (not_halted reply (Off k) on is);
@@ -189,7 +178,7 @@ pub record EndsWork (caller : ℕ) (op : Op) (old mid new : BankState) (reply : 
 
 -- A call that made so many cycles from a bank whose chips were ready.
 pub ended_call : (programs : Bool) (most n caller : ℕ) (op : Op) (old mid new : BankState) (reply : Reply) (given : List ℕ)
-    → BeginsWork programs most caller op old mid → (needs_of op).unlocked ≡ programs → polls op ≡ false → ends_work reply ≡ true → may_answer op reply ≡ true → new ≡ with_bus mid new.bus
+    → BeginsWork programs most caller op old mid → (needs_of op).unlocked ≡ programs → polls op ≡ false → ends_work reply ≡ true → MayAnswer op old reply → new ≡ with_bus mid new.bus
     → Went n n mid.bus new.bus → most + n ≤ call_most op old
     → ((a : ArrayState) → Stands old a → Stands mid a → IsReady programs mid → EndsWork caller op old mid new reply given a)
     → IsCallOf caller op old new reply given
@@ -207,7 +196,9 @@ ended_call programs most n caller op old mid new reply given begins unlocked oth
       stands = made.stands;
       erases = λ c below. (made.serves c below).erases ∙ sym (erases_on reply (lane mid.bus c).erases plain);
       suspends = λ c below. (made.serves c below).suspends;
-      left = λ opened c below. let same = left_served (lane mid.bus c) (lane new.bus c) (ready.shown c below) (made.serves c below) in omega (arith, same);
+      left = λ c below.
+          let same = left_served (lane mid.bus c) (lane new.bus c) (ready.shown c below) (made.serves c below) in
+          falls_in n op reply (lane mid.bus c) (lane new.bus c) (opens_none reply plain) (omega (arith, same), omega (arith, same));
       rests = λ quiet c below. (made.serves c (subst (λ (k : ℕ). c < k) went.kept.count below)).shown.job;
     })
 
@@ -215,6 +206,7 @@ ended_call programs most n caller op old mid new reply given begins unlocked oth
 
 pub record OpensErase (caller : ℕ) (op : Op) (mid new : BankState) (a : ArrayState) : Type 0 where
   pub erases : EachLane (λ s t. (t.erases ≡ counted s.erases) × (t.suspends ≡ s.suspends)) mid.bus new.bus
+  pub left : EachLane (λ s t. erase_left t ≡ start_left op s.part) mid.bus new.bus
   pub stands : Stands new (after_opened op caller a)
 
 pub opened_call : (most n caller : ℕ) (op : Op) (old mid new : BankState) (now : Erasing) → BeginsChange most caller op old mid → (needs_of op).opens ≡ true
@@ -222,10 +214,7 @@ pub opened_call : (most n caller : ℕ) (op : Op) (old mid new : BankState) (now
     → ((a : ArrayState) → Stands old a → Stands mid a → IsReady true mid → OpensErase caller op mid new a)
     → IsCallOf caller op old new Opened []
 opened_call most n caller op old mid new now begins opens kept is went few makes =
-    let none = closed_before caller op old begins.begins.works opens in
-    let free : mid.erase ≡ None = subst (λ (e : Option Erasing). GoesOn 0 e mid.erase) none begins.begins.goes_on in
-    let running : mid.halted ≡ None = ap (λ (b : BankState). b.halted) begins.begins.kept ∙ begins.begins.running in
-    begun_call true most n caller op old mid new Opened [] begins.begins (opens_unlocked op opens) (opens_other op opens) refl (opens_may op opens)
+    begun_call true most n caller op old mid new Opened [] begins.begins (opens_unlocked op opens) (opens_other op opens) refl (opens_may op old opens)
     (ap (λ (b : BankState). b.found) kept) (ap (λ (b : BankState). b.after) kept) (ap (λ (b : BankState). b.halted) kept)
     (subst (λ (e : Option Erasing). IsNew caller op e) (sym (ap (λ (b : BankState). b.erase) kept)) is)
     went few
@@ -237,7 +226,7 @@ opened_call most n caller op old mid new now begins opens kept is went few makes
       stands = made.stands;
       erases = λ c below. (made.erases c below).0;
       suspends = λ c below. (made.erases c below).1;
-      left = λ opened c below. let done = quiet_left mid a mine running free c below in omega (arith, done);
+      left = made.left;
       rests = λ quiet. absurd (opens_quiet op opens quiet);
     })
 
@@ -291,9 +280,6 @@ ends_halted PowerOn cause n old = tt
 halt_quiet : (op : Op) (cause : HaltCause) → leaves_quiet op (Halted cause) ≡ true → ⊥
 halt_quiet op cause quiet = cc
 
-not_open : (erase : Option Erasing) → erase ≡ None → is_open erase ≡ true → ⊥
-not_open erase none opened = let both : false ≡ true = sym (ap is_open none) ∙ opened in cc
-
 module _ (caller : ℕ) (op : Op) (cause : HaltCause) (old last new : BankState) (given : List ℕ) (works : Works caller op old) (running : old.halted ≡ None)
     (found : last.found ≡ old.found) (after_same : last.after ≡ old.after) (halts : new ≡ halting last cause) where
   new_found : new.found ≡ old.found
@@ -323,7 +309,7 @@ module _ (caller : ℕ) (op : Op) (cause : HaltCause) (old last new : BankState)
     cycles = n;
     few = few;
     asked = subst (λ (x : BusState). Asked n old.bus x) (sym new_bus) asked;
-    left = λ a stands opened. absurd (not_open new.erase none_kept opened);
+    left = λ a stands c below. tt;
     ends = λ a stands. ends_halted op cause n old;
   }
 
@@ -361,7 +347,7 @@ first_lost n caller op old last new given works running found after_same halts l
     worked_call caller op old new (Halted cause) given (record {
       works = works;
       running = running;
-      answers = answers_halt op cause;
+      answers = answers_off op old last.after;
       makes = λ a stands.
           let armed : IsArmed a.armed last.after = subst (λ (k : ℕ). IsArmed a.armed k) (sym after_same) (is_armed old a last.bus n (is_on_now old a stands running) lost) in
           let dark : new.bus.power ≡ false = ap (λ (x : BusState). x.power) here ∙ lost.power in
@@ -377,10 +363,10 @@ first_lost n caller op old last new given works running found after_same halts l
 -- A lane was read working by so many polls, and is stuck.
 pub first_stuck : (least n k caller : ℕ) (op : Op) (old last new : BankState) (given : List ℕ) → Works caller op old → old.halted ≡ None
     → last.found ≡ old.found → last.after ≡ old.after → new ≡ halting last (Stuck k) → Counted least n old.bus last.bus → n ≤ call_most op old
-    → ReadsStuck op old new → may_come (needs_of op).sticks (under_of old.erase) ≡ true
+    → k < old.found.geometry.lanes → ReadsStuck op old new → may_come (needs_of op).sticks (under_of old.erase) ≡ true
     → ((a : ArrayState) → Stands old a → HaltsFirst op (Stuck k) old new a × ((lane old.bus k).part.stuck ≡ true) × SticksAtWork op a)
     → IsCallOf caller op old new (Halted (Stuck k)) given
-first_stuck least n k caller op old last new given works running found after_same halts counted few read comes makes =
+first_stuck least n k caller op old last new given works running found after_same halts counted few low read comes makes =
     let cause = Stuck k in
     let here = new_bus caller op cause old last new given works running found after_same halts in
     let none = none_kept caller op cause old last new given works running found after_same halts in
@@ -388,7 +374,7 @@ first_stuck least n k caller op old last new given works running found after_sam
     worked_call caller op old new (Halted cause) given (record {
       works = works;
       running = running;
-      answers = answers_halt op cause;
+      answers = answers_stuck op old k low comes;
       makes = λ a stands.
           let made = makes a stands in
           let same : (lane new.bus k).part.stuck ≡ true =
@@ -453,11 +439,11 @@ lost_call programs most n caller op old mid last new given begins unlocked other
 -- A lane was read working by so many polls.
 pub stuck_call : (programs : Bool) (most least n k caller : ℕ) (op : Op) (old mid last new : BankState) (given : List ℕ)
     → BeginsWork programs most caller op old mid → (needs_of op).unlocked ≡ programs → polls op ≡ false → last ≡ with_bus mid last.bus → new ≡ halting last (Stuck k)
-    → Counted least n mid.bus last.bus → most + n ≤ call_most op old → ReadsStuck op old new → may_come (needs_of op).sticks (under_of old.erase) ≡ true
+    → Counted least n mid.bus last.bus → most + n ≤ call_most op old → k < old.found.geometry.lanes → ReadsStuck op old new → may_come (needs_of op).sticks (under_of old.erase) ≡ true
     → ((a : ArrayState) → Stands old a → Stands mid a → IsReady programs mid
     → HaltsWork op (Stuck k) mid new a × ((lane mid.bus k).part.stuck ≡ true) × SticksAtWork op a)
     → IsCallOf caller op old new (Halted (Stuck k)) given
-stuck_call programs most least n k caller op old mid last new given begins unlocked other kept halts counted few read comes makes =
+stuck_call programs most least n k caller op old mid last new given begins unlocked other kept halts counted few low read comes makes =
     let m = begins.cycles in
     let j = counted.cycles in
     let fit = begins.few in
@@ -470,7 +456,7 @@ stuck_call programs most least n k caller op old mid last new given begins unloc
       few = omega arith;
       went = went_then m m j j (m + j) (m + j) old.bus mid.bus last.bus (omega arith) (omega arith) begins.went counted.went;
     })
-    (omega (arith, fit, less, few)) read comes
+    (omega (arith, fit, less, few)) low read comes
     (λ a stands.
     let way = begins.stands a stands in
     let made = makes a stands way.stands (way.ready refl) in (

@@ -1,25 +1,26 @@
--- What a reply leaves as it was, and the suspends of a call.
-use Rattle.std.proofs.Common.{◌≡◌, ℕ, List, [], refl, sym, ◌∙◌, ap, arith, Bool, true, false, Option, None}
+-- What a reply leaves as it was, and the suspends and the reads left of a call.
+use Rattle.std.proofs.Common.{◌≡◌, ◌<◌, ◌+◌, ℕ, List, [], refl, sym, ◌∙◌, ap, arith, Bool, true, false, Option, None}
 use Rattle.std.specs.Prelude.{◌&&◌, not, if◌then◌else◌}
-use Rattle.nor_cell.specs.Chip.{ChipState, Job, Held, counted, reads_left}
+use Rattle.nor_cell.specs.Chip.{ChipState, Part, Job, counted}
 use Rattle.nor_cell.specs.declared.device.SuspendKind.{SuspendKind}
 use Rattle.nor_bus.specs.Bus.{lane}
 use Rattle.nor_bus.specs.Driven.{AllLanes}
 use Rattle.nor_array.specs.Array.{ArrayState}
-use Rattle.nor_array.specs.Admits.{Ends as EndsWith, EndsUnlocked, AsksChips, first_locked}
+use Rattle.nor_array.specs.Admits.{Ends as EndsWith, EndsUnlocked, AsksChips, first_locked, may_come}
 use Rattle.nor_array.specs.Needs.{needs_of}
 use Rattle.nor_array.specs.declared.entry.Halted.{Halted as HaltCause}
+use Rattle.nor_array.specs.declared.entry.Halted.TheVariants.{Off, Stuck}
 use Rattle.nor_array.specs.declared.entry.Op.{Op}
 use Rattle.nor_array.specs.declared.entry.Op.TheVariants.{Read, Program, EraseOpen, EraseAll, Poll, Lock, Unlock, IsLocked, Arm, PowerOn}
 use Rattle.nor_array.specs.declared.entry.Reply.{Reply}
 use Rattle.nor_array.specs.declared.entry.Reply.TheVariants.{Done, Opened, Erased, Bit, OutOfRange, TooLong, Busy, Occupied, Locked, NoLocks, NoChipErase, Nothing, NotYet, Failed, Halted}
 use Rattle.nor_poll.specs.Suspend.{pauses, is_long}
-use Rattle.nor_poll.specs.UnderErase.{erase_left, held_left}
-use Rattle.nor_bank.specs.Counts.{can_beside, may_suspend, erases_after, suspends_after, EndsErase, CountsSuspend, GoesOn, KeepsErase}
+use Rattle.nor_bank.specs.Counts.{can_beside, may_suspend, erases_after, suspends_after, start_left, EndsErase, LeftFalls, LeftIn, CountsSuspend, GoesOn, KeepsErase}
+use Rattle.nor_bank.specs.Locks.{HasReadLock}
 use Rattle.nor_bank.specs.Refused.{is_own}
-use Rattle.nor_bank.specs.Stands.{Stands}
+use Rattle.nor_bank.specs.Stands.{Stands, under_of}
 use Rattle.nor_bank.specs.State.{BankState}
-use Rattle.nor_bank.specs.Whole.{leaves_quiet, may_answer}
+use Rattle.nor_bank.specs.Whole.{leaves_quiet, MayAnswer}
 use Rattle.nor_bank.specs.Work.{kept_after}
 use Rattle.nor_bank.specs.declared.kept.Erasing.{Erasing}
 use Rattle.nor_bank.proofs.Standing.{is_on_now, quiet_now}
@@ -122,14 +123,27 @@ quiet_pauses b a stands running closed c below =
     let quiet = quiet_now b a (is_on_now b a stands running) closed c below in
     not_long s.part.stuck (is_long s.part.pace_suspend s.job) (ap (λ (j : Job). is_long s.part.pace_suspend j) quiet.shown.job)
 
--- and no read is left
-pub quiet_left : (b : BankState) (a : ArrayState) → Stands b a → b.halted ≡ None → b.erase ≡ None → AllLanes (λ s. erase_left s ≡ 0) b.bus
-quiet_left b a stands running closed c below =
-    let s = lane b.bus c in
-    let quiet = quiet_now b a (is_on_now b a stands running) closed c below in
-    let job : reads_left s.job ≡ 0 = ap (λ (j : Job). reads_left j) quiet.shown.job in
-    let held : held_left s.held ≡ 0 = ap (λ (h : Held). held_left h) quiet.held in
-    omega (arith, job, held)
+-- ---- the reads left
+
+-- a call that opens no erase lets them fall
+pub falls_in : (n : ℕ) (op : Op) (reply : Reply) (s t : ChipState) → (reply ≡ Opened → ⊥) → LeftFalls n s t → LeftIn n op reply s t
+falls_in n op Opened s t other falls = absurd (other refl)
+falls_in n op (Halted cause) s t other falls = tt
+falls_in n op reply s t other falls = falls
+
+falls_then : (m n : ℕ) (r s t : ChipState) → LeftFalls m r s → LeftFalls n s t → LeftFalls (m + n) r t
+falls_then m n r s t before falls =
+    let most = before.0 in
+    let few = before.1 in
+    let most_then = falls.0 in
+    let few_then = falls.1 in
+    (omega (arith, most, most_then), omega (arith, few, few_then))
+
+-- they fall on the way to the chips, and then as in the work of the call
+pub left_then : (m n : ℕ) (op : Op) (reply : Reply) (r s t : ChipState) → s.part ≡ r.part → LeftFalls m r s → LeftIn n op reply s t → LeftIn (m + n) op reply r t
+left_then m n op Opened r s t part before is = is ∙ ap (λ (p : Part). start_left op p) part
+left_then m n op (Halted cause) r s t part before is = tt
+left_then m n op reply r s t part before is = falls_then m n r s t before is
 
 -- ---- a reply that ends the work of a call
 
@@ -200,6 +214,9 @@ opens_ends (IsLocked k) a opens = absurd (cc)
 opens_ends (Arm cut mask) a opens = absurd (cc)
 opens_ends PowerOn a opens = absurd (cc)
 
+pub opens_none : (reply : Reply) → ends_work reply ≡ true → reply ≡ Opened → ⊥
+opens_none reply plain is = let both : true ≡ false = sym plain ∙ ap ends_work is in cc
+
 pub opens_quiet : (op : Op) → (needs_of op).opens ≡ true → leaves_quiet op Opened ≡ true → ⊥
 opens_quiet (EraseOpen k) opens quiet = cc
 opens_quiet EraseAll opens quiet = cc
@@ -214,34 +231,22 @@ opens_quiet PowerOn opens quiet = cc
 
 -- ---- what may answer a call
 
-pub answers_halt : (op : Op) (cause : HaltCause) → may_answer op (Halted cause) ≡ true
-answers_halt (Read at len) cause = refl
-answers_halt op cause = refl
+pub answers_off : (op : Op) (b : BankState) (n : ℕ) → MayAnswer op b (Halted (Off n))
+answers_off (Read at len) b n = tt
+answers_off op b n = tt
 
-pub answers_wait : (op : Op) → may_answer op NotYet ≡ true
-answers_wait (Read at len) = refl
-answers_wait op = refl
+pub answers_stuck : (op : Op) (b : BankState) (k : ℕ) → k < b.found.geometry.lanes → may_come (needs_of op).sticks (under_of b.erase) ≡ true → MayAnswer op b (Halted (Stuck k))
+answers_stuck (Read at len) b k low comes = (low, comes)
+answers_stuck op b k low comes = (low, comes)
 
-pub answers_locked : (op : Op) (k : ℕ) → (needs_of op).unlocked ≡ true → may_answer op (Locked k) ≡ true
-answers_locked (Program at new) k unlocked = refl
-answers_locked (EraseOpen b) k unlocked = refl
-answers_locked EraseAll k unlocked = refl
-answers_locked (Read at len) k unlocked = absurd (cc)
-answers_locked Poll k unlocked = absurd (cc)
-answers_locked (Lock b) k unlocked = absurd (cc)
-answers_locked (Unlock b) k unlocked = absurd (cc)
-answers_locked (IsLocked b) k unlocked = absurd (cc)
-answers_locked (Arm cut mask) k unlocked = absurd (cc)
-answers_locked PowerOn k unlocked = absurd (cc)
+pub answers_wait : (op : Op) (b : BankState) → may_come (needs_of op).waits (under_of b.erase) ≡ true → MayAnswer op b NotYet
+answers_wait (Read at len) b comes = comes
+answers_wait op b comes = comes
 
-pub opens_may : (op : Op) → (needs_of op).opens ≡ true → may_answer op Opened ≡ true
-opens_may (EraseOpen k) opens = refl
-opens_may EraseAll opens = refl
-opens_may (Read at len) opens = absurd (cc)
-opens_may (Program at new) opens = absurd (cc)
-opens_may Poll opens = absurd (cc)
-opens_may (Lock k) opens = absurd (cc)
-opens_may (Unlock k) opens = absurd (cc)
-opens_may (IsLocked k) opens = absurd (cc)
-opens_may (Arm cut mask) opens = absurd (cc)
-opens_may PowerOn opens = absurd (cc)
+pub answers_locked : (op : Op) (b : BankState) (k : ℕ) → (needs_of op).unlocked ≡ true → HasReadLock b (needs_of op).reach k → MayAnswer op b (Locked k)
+answers_locked (Read at len) b k unlocked found = (unlocked, found)
+answers_locked op b k unlocked found = (unlocked, found)
+
+pub opens_may : (op : Op) (b : BankState) → (needs_of op).opens ≡ true → MayAnswer op b Opened
+opens_may (Read at len) b opens = opens
+opens_may op b opens = opens

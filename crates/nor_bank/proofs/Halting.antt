@@ -1,11 +1,9 @@
 -- Calls that are answered before their work: nothing is asked of the chips, they have to wait, or they halt on the way.
 use Rattle.std.proofs.Common.{◌≡◌, ◌<◌, ◌≤◌, ◌+◌, ◌⊎◌, inl, ℕ, zero, suc, List, [], ◌∷◌, length, slice_index, slice_set, refl, sym, ◌∙◌, ap, subst, arith, Bool, true, false, Option, Some, None}
-use Rattle.std.specs.Prelude.{◌&&◌, not, bit_and, slice_index_or}
+use Rattle.std.specs.Prelude.{◌&&◌, not, slice_index_or}
 use Rattle.std.proofs.lemmas.List.{ext_get_or, set_past}
-use Rattle.nor_cell.specs.Bits.{IsBetween}
 use Rattle.nor_cell.specs.Chip.{ChipState}
 use Rattle.nor_cell.specs.declared.device.SuspendKind.{SuspendKind}
-use Rattle.nor_cell.proofs.Logic.{and_self}
 use Rattle.nor_query.specs.Derived.{suspend_of}
 use Rattle.nor_bus.specs.Bus.{lane, more}
 use Rattle.nor_bus.specs.Driven.{EachLane}
@@ -25,6 +23,7 @@ use Rattle.nor_array.specs.declared.entry.Reply.TheVariants.{NotYet, Halted}
 use Rattle.nor_array.specs.declared.state.OpenErase.{OpenErase}
 use Rattle.nor_poll.specs.declared.lanes.Halt.{Halt}
 use Rattle.nor_poll.specs.declared.lanes.Halt.TheVariants.{Off as LostPower, Stuck as StuckLane}
+use Rattle.nor_poll.proofs.Between.{kept_between}
 use Rattle.nor_bank.specs.Calls.{left_of, stands_locked}
 use Rattle.nor_bank.specs.Counts.{is_open, can_beside, may_suspend, suspends_after, call_most, GoesOn, IsBelowLimit, KeepsErase, ReadsStuck}
 use Rattle.nor_bank.specs.Refused.{Works, bank_refusal, is_own}
@@ -39,7 +38,7 @@ use Rattle.nor_bank.proofs.Beginning.{LiesIn, lies_in, may_work, range_beside, c
 use Rattle.nor_bank.proofs.Ending.{HaltsFirst, polls, worked_call, first_lost, first_stuck, suspends_alike, ends_none, answers_wait}
 use Rattle.nor_bank.proofs.Holding.{spared_by, locks_by}
 use Rattle.nor_bank.proofs.Known.{known_some}
-pub use Rattle.nor_bank.proofs.HaltingIdle.{needs_own, needs_unpolled, never_done, never_failed, goes_self, lanes_self, programs_nothing, idle_call, idle_answer}
+pub use Rattle.nor_bank.proofs.HaltingIdle.{needs_own, needs_unpolled, never_done, never_failed, lanes_self, programs_nothing, idle_call, idle_answer}
 
 -- ---- up to the work
 
@@ -172,7 +171,7 @@ waiting_call programs caller op old new given works unpolled unlocked opened of 
     worked_call caller op old new NotYet given (record {
       works = works;
       running = may.running;
-      answers = answers_wait op;
+      answers = answers_wait op old (may_wait op (under_of old.erase) may.own (open_under old.erase opened) (not_opening caller op old works opened));
       makes = λ a stands.
           let on = clears.stands of a stands in
           let open_now : is_open_in a.under ≡ true = ap is_open_in stands.under ∙ open_under old.erase opened in
@@ -200,7 +199,7 @@ waiting_call programs caller op old new given works unpolled unlocked opened of 
         cycles = clears.cycles;
         few = omega (arith, few, fit);
         asked = inl clears.went;
-        left = λ a stands open_after c below. ((clears.stands of a stands).each c below).left;
+        left = λ a stands c below. ((clears.stands of a stands).each c below).left;
         ends = λ a stands. ends_none op NotYet clears.cycles old unpolled;
       };
       off = λ n is. absurd (let both : NotYet ≡ Halted (Off n) = is in cc);
@@ -217,10 +216,6 @@ waits_answer programs old now new needs refusal caller op given has is none same
     (subst (λ (b : BankState). is_open b.erase ≡ true) same opened) (of_block caller op old works has.unpolled) (subst (λ (b : BankState). ClearsWay programs b new false) same clears)
 
 -- ---- halts that leave the call's own work undone
-
--- programming leaves a byte as it was
-same_between : (old datum : ℕ) → IsBetween old datum old
-same_between old datum = record { clears_only = and_self old; keeps = ap (λ (x : ℕ). bit_and x datum) (and_self old) }
 
 set_own : (xs : List Bool) (k : ℕ) (d : Bool) → slice_set xs k (slice_index_or xs k d) ≡ xs
 set_own [] k d = set_past [] k (slice_index_or [] k d) (omega arith)
@@ -275,7 +270,7 @@ module _ (caller : ℕ) (op : Op) (old new : BankState) (a : ArrayState) (works 
   program_undone at data_in None is =
       let same = range_left at data_in is in
       subst (λ (xs : List ℕ). AllBetween (range a.bytes at (length data_in)) data_in xs) (sym same)
-      (record { size = refl; each = λ k below. same_between (slice_index (range a.bytes at (length data_in)) k) (slice_index data_in k) })
+      (record { size = refl; each = λ k below. kept_between (slice_index (range a.bytes at (length data_in)) k) (slice_index data_in k) })
 
   lock_undone : (k : ℕ) (cause : HaltCause) (asked : Bool) → LockLeaves cause (is_locked a k) asked (lock_byte (stands_locked new k) ∷ [])
   lock_undone k (Off n) asked = inl (ap (λ (l : Bool). lock_byte l ∷ []) (lock_same k))
@@ -299,20 +294,21 @@ module _ (caller : ℕ) (op : Op) (old new : BankState) (a : ArrayState) (works 
 
 -- ---- a halt on the way
 
-more_least : (least n count new : ℕ) → least ≤ n → more n count ≤ new → more least count ≤ new
+-- more cycles than the least
+pub more_least : (least n count new : ℕ) → least ≤ n → more n count ≤ new → more least count ≤ new
 more_least least n count new le enough = omega (arith, le, enough)
 
-reads_stuck : (op : Op) (old new : BankState) → polls op ≡ false → more 20 old.bus.cycles ≤ new.bus.cycles → ReadsStuck op old new
-reads_stuck Poll old new unpolled many = absurd (cc)
-reads_stuck (Program at data_in) old new unpolled many = inl many
-reads_stuck (Read at len) old new unpolled many = many
-reads_stuck (EraseOpen k) old new unpolled many = many
-reads_stuck EraseAll old new unpolled many = many
-reads_stuck (Lock k) old new unpolled many = many
-reads_stuck (Unlock k) old new unpolled many = many
-reads_stuck (IsLocked k) old new unpolled many = many
-reads_stuck (Arm cut mask) old new unpolled many = many
-reads_stuck PowerOn old new unpolled many = many
+reads_stuck : (op : Op) (old new : BankState) → polls op ≡ false → is_open old.erase ≡ true → more 20 old.bus.cycles ≤ new.bus.cycles → ReadsStuck op old new
+reads_stuck Poll old new unpolled opened many = absurd (cc)
+reads_stuck (Program at data_in) old new unpolled opened many = inl (opened, many)
+reads_stuck (Read at len) old new unpolled opened many = (opened, many)
+reads_stuck (EraseOpen k) old new unpolled opened many = (opened, many)
+reads_stuck EraseAll old new unpolled opened many = (opened, many)
+reads_stuck (Lock k) old new unpolled opened many = (opened, many)
+reads_stuck (Unlock k) old new unpolled opened many = (opened, many)
+reads_stuck (IsLocked k) old new unpolled opened many = (opened, many)
+reads_stuck (Arm cut mask) old new unpolled opened many = (opened, many)
+reads_stuck PowerOn old new unpolled opened many = (opened, many)
 
 not_both : (p q : Bool) → q ≡ true → (p && not q) ≡ true → ⊥
 not_both true q is both = let no_way : false ≡ true = sym (ap not is) ∙ both in cc
@@ -351,11 +347,11 @@ module _ (programs : Bool) (caller : ℕ) (op : Op) (old new : BankState) (given
       (λ a stands. breaks_first (Off old.after) a (ap (λ (b : BankState). b.found) kept) stands (loses.1 of a stands))
   way_halts (StuckLane k) of kept loses =
       let may = may_work caller op old works in
-      let counted = loses.0 in
+      let counted = loses.0.1 in
       let many = counted.went.enough in
       let least = counted.enough in
-      first_stuck 20 way_most k caller op old (with_bus old new.bus) new given works may.running refl refl kept loses.0 (way_fits op old may.own unpolled)
-      (reads_stuck op old new unpolled (more_least 20 counted.cycles old.bus.cycles new.bus.cycles least many))
+      first_stuck 20 way_most k caller op old (with_bus old new.bus) new given works may.running refl refl kept counted (way_fits op old may.own unpolled) loses.0.0
+      (reads_stuck op old new unpolled opened (more_least 20 counted.cycles old.bus.cycles new.bus.cycles least many))
       (may_stick op (under_of old.erase) may.own (open_under old.erase opened) (not_opening caller op old works opened))
       (λ a stands.
       let broken = loses.1 of a stands in (

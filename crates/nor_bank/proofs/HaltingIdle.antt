@@ -16,16 +16,14 @@ use Rattle.nor_array.specs.declared.entry.Op.TheVariants.{Read, Program, EraseOp
 use Rattle.nor_array.specs.declared.entry.Reply.{Reply}
 use Rattle.nor_array.specs.declared.entry.Reply.TheVariants.{Done, Failed, NotYet, Halted}
 use Rattle.nor_bank.specs.Calls.{entry_of, given_by}
-use Rattle.nor_bank.specs.Counts.{GoesOn}
 use Rattle.nor_bank.specs.Refused.{Works, bank_refusal, is_own}
 use Rattle.nor_bank.specs.Stands.{Stands}
 use Rattle.nor_bank.specs.State.{BankState}
 use Rattle.nor_bank.specs.Way.{HasNeeds}
 use Rattle.nor_bank.specs.Whole.{IsCallOf}
-use Rattle.nor_bank.specs.declared.kept.Erasing.{Erasing}
-use Rattle.nor_bank.proofs.Ending.{polls, ends_none, own_caller}
+use Rattle.nor_bank.proofs.Ending.{polls, ends_none}
 use Rattle.nor_bank.proofs.Outlines.{refuses_as_array}
-use Rattle.nor_bank.proofs.RefusedCalls.{MayRefuse, may_refuse}
+use Rattle.nor_bank.proofs.RefusedCalls.{MayRefuse, goes_on_self, own_caller, may_refuse}
 
 -- ---- calls with needs
 
@@ -60,10 +58,6 @@ never_failed b caller op refusal reply from to lanes is some failed =
     subst (λ (r : Reply). MayRefuse b.halted r) same (may_refuse b caller op reply (sym is ∙ some))
 
 -- ---- a call that asks nothing of the chips
-
-pub goes_self : (e : Option Erasing) → GoesOn 0 e e
-goes_self None = refl
-goes_self (Some e) = (refl, refl, (let h : e.polls ≡ e.polls + 0 = omega arith in h))
 
 pub lanes_self : (bus : BusState) → KeepsLanes bus bus
 lanes_self bus = record { count = refl; each = λ c below. record { part = refl; size = refl; locks = refl; bytes = λ small. small } }
@@ -138,14 +132,14 @@ idle_call b caller op given unrefused idle other unpolled none =
         after = refl;
         halted = refl;
         lanes = lanes_self b.bus;
-        erase = goes_self b.erase;
+        erase = goes_on_self b.erase;
         limit = λ is. absurd (let both : Done ≡ NotYet = is in cc);
       };
       spends = record {
         cycles = 0;
         few = omega arith;
         asked = inl (went_none b.bus);
-        left = λ a stands opened c below. omega arith;
+        left = λ a stands c below. (omega arith, omega arith);
         ends = λ a stands. ends_none op Done 0 b unpolled;
       };
       off = λ n is. absurd (let both : Done ≡ Halted (Off n) = is in cc);

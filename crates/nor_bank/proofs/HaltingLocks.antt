@@ -1,9 +1,9 @@
 -- A call whose blocks must be unlocked, up to its work: the locks of its blocks are read.
 use Rattle.std.proofs.Common.{◌≡◌, ◌<◌, ◌≤◌, ◌+◌, ◌-◌, ◌*◌, ◌/◌, ◌%◌, inl, inr, ℕ, zero, suc, List, [], ◌∷◌, length, refl, sym, ◌∙◌, ap, subst, arith, Bool, true, false, Option, Some, None}
-use Rattle.std.specs.Prelude.{nat_lt, nat_le, ◌==◌, ◌&&◌, ◌||◌, if◌then◌else◌}
+use Rattle.std.specs.Prelude.{nat_lt, nat_le, if◌then◌else◌}
 use Rattle.std.proofs.lemmas.Bool.{cases_lt}
 use Rattle.std.proofs.lemmas.Nat.{div-add-mod'}
-use Rattle.std.proofs.Math.Nat.{mod-lt, lt_of_mul-lt-mul_right}
+use Rattle.std.proofs.Math.Nat.{mod-lt, mul-pos, lt_of_mul-lt-mul_right}
 use Rattle.nor_cell.specs.Bits.{unit_len}
 use Rattle.nor_cell.specs.Between.{IsShown}
 use Rattle.nor_cell.specs.Chip.{ChipState, block, block_at, is_within, span_end}
@@ -19,6 +19,7 @@ use Rattle.nor_bus.specs.Driven.{EachLane, Went}
 use Rattle.nor_bus.proofs.Driving.{went_none, went_then}
 use Rattle.nor_poll.specs.UnderErase.{erase_left}
 use Rattle.nor_probe.specs.declared.probing.Found.{Found}
+use Rattle.nor_probe.proofs.TablesRead.{first_lane}
 use Rattle.nor_array.specs.Array.{ArrayState}
 use Rattle.nor_array.specs.Admits.{lowest_locked, first_locked, EndsUnlocked}
 use Rattle.nor_array.specs.Needs.{needs_of}
@@ -29,9 +30,10 @@ use Rattle.nor_array.specs.declared.entry.Op.{Op}
 use Rattle.nor_array.specs.declared.entry.Op.TheVariants.{Read, Program, EraseOpen, EraseAll, Poll, Lock, Unlock, IsLocked, Arm, PowerOn}
 use Rattle.nor_array.specs.declared.entry.Reply.{Reply}
 use Rattle.nor_array.specs.declared.entry.Reply.TheVariants.{Locked}
-use Rattle.nor_bank.specs.Counts.{is_open, GoesOn, can_beside, call_most, program_limit}
-use Rattle.nor_bank.specs.Locks.{ShowsArray, ReadsLocks, LosesLocks, blocks_met, locks_most}
+use Rattle.nor_bank.specs.Counts.{is_open, GoesOn, LeftFalls, can_beside, call_most, program_limit}
+use Rattle.nor_bank.specs.Locks.{HasReadLock, ShowsArray, ReadsLocks, LosesLocks, blocks_met, locks_most}
 use Rattle.nor_bank.specs.Ranges.{words_met}
+use Rattle.nor_bank.specs.Refused.{outline}
 use Rattle.nor_bank.specs.Stands.{Stands}
 use Rattle.nor_bank.specs.State.{BankState, HasLongBlocks, word_bytes, size_of, blocks_of}
 use Rattle.nor_bank.specs.Way.{HasNeeds, IsReady, LetsProgram, PassesBy, BeginsWork, BeginsChange, way_most, blocks_touched, lock_most, change_most}
@@ -43,6 +45,7 @@ use Rattle.nor_bank.proofs.Ending.{ended_call, lost_call, answers_locked}
 use Rattle.nor_bank.proofs.Halting.{holds_undone, leaves_undone, needs_unpolled}
 use Rattle.nor_bank.proofs.HoldingLanes.{Serves}
 use Rattle.nor_bank.proofs.Known.{blocks_follow}
+use Rattle.nor_bank.proofs.LocksSearching.{touches_by_blocks}
 use Rattle.nor_bank.proofs.Meeting.{ends_before}
 
 -- ---- how many blocks a range meets
@@ -102,16 +105,9 @@ few_blocks f long some at n fits =
     (block_there (blocks_of f) (size_of f) 0 at follow first (omega arith)) (block_there (blocks_of f) (size_of f) 0 (at + n) follow fits (omega arith))
     (block_holds (blocks_of f) (size_of f) 0 at follow first (omega arith)) (block_holds (blocks_of f) (size_of f) 0 (at + n) follow fits (omega arith))
 
-some_product : (a b : ℕ) → 0 < a → 0 < b → 0 < a * b
-some_product zero b lanes bytes = absurd (omega (arith, lanes))
-some_product (suc a) b lanes bytes = let more : suc a * b ≡ a * b + b = omega arith in omega (arith, more, bytes)
-
-some_wire : (width lanes d : ℕ) → ((lanes == 1 || lanes == 2 || lanes == 4) && (width == lanes * d)) ≡ true → 0 < lanes
-some_wire width lanes d is = grind (arith, is)
-
 -- a bus word has a byte
 pub some_width : (width lanes : ℕ) (device : Device) → is_wiring width lanes device ≡ true → 0 < lanes * unit_len device
-some_width width lanes device wiring = some_product lanes (unit_len device) (some_wire width lanes (unit_len device) wiring) (some_bytes device)
+some_width width lanes device wiring = mul-pos (first_lane width lanes (unit_len device) wiring) (some_bytes device)
 
 met_few : (b : BankState) → HasLongBlocks b.found → 0 < word_bytes b.found → (op : Op) → (needs_of op).unlocked ≡ true → reach_refusal b.found (needs_of op).reach ≡ None
     → blocks_met b.found (needs_of op).reach ≤ blocks_touched b op
@@ -141,7 +137,7 @@ locks_within b long some op unlocked there =
     if_within (locks_of b.found.query.extended) (blocks_met b.found (needs_of op).reach) (blocks_touched b op) (met_few b long some op unlocked there)
 
 -- with the way they fit into the call
-if_most : (p : Bool) (x : ℕ) → (if p then x else 0) ≤ x
+pub if_most : (p : Bool) (x : ℕ) → (if p then x else 0) ≤ x
 if_most true x = omega arith
 if_most false x = omega arith
 
@@ -185,7 +181,7 @@ module _ (caller : ℕ) (op : Op) (old mid new : BankState) (begins : BeginsWork
 
   -- with so many cycles on the way
   begins_on : (first n : ℕ) → Went first first old.bus mid.bus
-      → ((a : ArrayState) → Stands old a → EachLane (λ s t. erase_left s ≤ erase_left t + first) old.bus mid.bus)
+      → ((a : ArrayState) → Stands old a → EachLane (LeftFalls first) old.bus mid.bus)
       → first + reads.cycles ≤ n → BeginsWork true n caller op old new
   begins_on first n way left few = record {
     works = begins.works;
@@ -208,7 +204,7 @@ module _ (caller : ℕ) (op : Op) (old mid new : BankState) (begins : BeginsWork
               (record {
                 remains = (on.each c below).remains;
                 suspends = (on.each c below).suspends;
-                left = let l = left a stands c below in omega (arith, l);
+                left = let falls = left a stands c below in let few = falls.1 in (falls.0, omega (arith, few));
               });
         };
   }
@@ -219,7 +215,7 @@ module _ (caller : ℕ) (op : Op) (old mid new : BankState) (begins : BeginsWork
       let less = reads.few in
       let none : (if is_open old.erase then way_most else 0) ≡ 0 = ap (λ (e : Option Erasing). if is_open e then way_most else 0) is in
       begins_on 0 (change_most old op) (subst (λ (b : BankState). Went 0 0 old.bus b.bus) (sym same) (went_none old.bus))
-      (λ a stands c below. let e : erase_left (lane mid.bus c) ≡ erase_left (lane old.bus c) = ap (λ (b : BankState). erase_left (lane b.bus c)) same in omega (arith, e))
+      (λ a stands c below. let e : erase_left (lane mid.bus c) ≡ erase_left (lane old.bus c) = ap (λ (b : BankState). erase_left (lane b.bus c)) same in (omega (arith, e), omega (arith, e)))
       (omega (arith, less, within, none))
   began (Some e) is closed within =
       let less = reads.few in
@@ -259,6 +255,15 @@ module _ (needs : CallNeeds) (caller : ℕ) (op : Op) (old mid new : BankState) 
       (subst (λ (r : Reach). locks_most old.found r ≤ lock_most old op) (reach_of op needs has)
       (locks_within old long some op its_unlocked (may_work caller op old begins.works).there))
 
+  its_lock : (k : ℕ) → HasReadLock mid needs.reach k → HasReadLock old (needs_of op).reach k
+  its_lock k found =
+      subst (λ (r : Reach). HasReadLock old r k) (sym (reach_of op needs has))
+      (record {
+        offers = ap (λ (f : Found). locks_of f.query.extended) (sym found_mid) ∙ found.offers;
+        there = subst (λ (f : Found). k < length (blocks_of f)) found_mid found.there;
+        touched = touches_by_blocks (outline old) (outline mid) needs.reach k (ap blocks_of (sym found_mid)) ∙ found.touched;
+      })
+
   -- no block is locked
   pub begins_change : (old.erase ≡ None → mid ≡ old) → ReadsLocks (locks_most mid.found needs.reach) mid new
       → ((a : ArrayState) → ShowsArray mid a → None ≡ lowest_locked a needs.reach) → BeginsChange (change_most old op) caller op old new
@@ -271,12 +276,12 @@ module _ (needs : CallNeeds) (caller : ℕ) (op : Op) (old mid new : BankState) 
 
   -- one is
   pub locked_answer : (k : ℕ) (given : List ℕ) → ReadsLocks (locks_most mid.found needs.reach) mid new
-      → ((a : ArrayState) → ShowsArray mid a → Some k ≡ lowest_locked a needs.reach) → IsCallOf caller op old new (Locked k) given
-  locked_answer k given reads lowest =
+      → ((a : ArrayState) → ShowsArray mid a → Some k ≡ lowest_locked a needs.reach) → HasReadLock mid needs.reach k → IsCallOf caller op old new (Locked k) given
+  locked_answer k given reads lowest found =
       let less = reads.few in
       let fits = lock_fits old op its_unlocked in
       let most = within in
-      ended_call true way_most reads.cycles caller op old mid new (Locked k) given begins its_unlocked (needs_unpolled op needs has) refl (answers_locked op k its_unlocked) reads.kept reads.went
+      ended_call true way_most reads.cycles caller op old mid new (Locked k) given begins its_unlocked (needs_unpolled op needs has) refl (answers_locked op old k its_unlocked (its_lock k found)) reads.kept reads.went
       (omega (arith, less, most, fits))
       (λ a stands now ready.
       let shows = shows_mid mid a true mid_running now ready in

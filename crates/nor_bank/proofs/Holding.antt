@@ -1,5 +1,5 @@
 -- What a bank stands for, by what its chips hold.
-use Rattle.std.proofs.Common.{◌≡◌, ◌<◌, ◌≤◌, ◌+◌, ◌-◌, ◌*◌, ◌⊎◌, inl, inr, ℕ, List, [], ◌∷◌, ◌++◌, length, take, drop, slice_index, slice_set, refl, sym, ◌∙◌, ap, subst, arith, Bool, true, false, Option, Some, None}
+use Rattle.std.proofs.Common.{◌≡◌, ◌<◌, ◌≤◌, ◌+◌, ◌-◌, ◌*◌, inl, inr, ℕ, List, [], ◌∷◌, ◌++◌, length, take, drop, slice_index, slice_set, refl, sym, ◌∙◌, ap, subst, arith, Bool, true, false, Option, Some, None}
 use Rattle.std.specs.Prelude.{◌&&◌, nat_le, nat_lt, slice_index_or}
 use Rattle.nor_cell.specs.Bits.{AreBytes, unit_len}
 use Rattle.std.proofs.lemmas.Bool.{cases_lt}
@@ -19,7 +19,7 @@ use Rattle.nor_lane.proofs.Places.{bank_place-place_at, lane_at_below, bank_plac
 use Rattle.nor_query.specs.Derived.{locks_of}
 use Rattle.nor_bus.specs.Bus.{BusState, lane, lanes_of, units_of, bank_byte}
 use Rattle.nor_bus.specs.Cycles.{KeepsLanes}
-use Rattle.nor_bus.specs.Driven.{AllLanes, EachLane, Went, Lost}
+use Rattle.nor_bus.specs.Driven.{AllLanes, EachLane, Went}
 use Rattle.nor_poll.specs.Toggles.{names_job}
 use Rattle.nor_poll.specs.UnderErase.{KeepsOutside, state_at}
 use Rattle.nor_probe.specs.declared.probing.Found.{Found}
@@ -33,14 +33,13 @@ use Rattle.nor_array.specs.declared.state.ArmedCut.{ArmedCut}
 use Rattle.nor_array.specs.declared.state.Power.{Power}
 use Rattle.nor_array.specs.declared.state.Power.TheVariants.{On}
 use Rattle.nor_array.specs.declared.entry.Halted.TheVariants.{Off, Stuck}
-use Rattle.nor_bus.specs.declared.bus.Armed.{Armed}
 use Rattle.nor_array.specs.declared.entry.Halted.{Halted as HaltCause}
 use Rattle.nor_array.specs.declared.entry.Op.{Op}
 use Rattle.nor_array.specs.declared.entry.Op.TheVariants.{Read, Program, EraseOpen, EraseAll, Poll, Lock, Unlock, IsLocked, Arm, PowerOn}
 use Rattle.nor_array.specs.declared.entry.Reply.TheVariants.{Halted}
 use Rattle.nor_bank.specs.Calls.{entry_of, stands_locked, left_by_halt, left_in_erase, left_of}
 use Rattle.nor_bank.specs.Refused.{Works}
-use Rattle.nor_bank.specs.Stands.{Stands, IsKnown, IsOn, PowerIs, CutIs, EraseIs, is_under, under_of, kept_power}
+use Rattle.nor_bank.specs.Stands.{Stands, IsKnown, IsOn, PowerIs, EraseIs, is_under, under_of, kept_power}
 use Rattle.nor_bank.specs.State.{BankState, size_of, blocks_of, byte_of, bytes_of, erase_limit}
 use Rattle.nor_bank.specs.declared.kept.Erasing.{Erasing}
 use Rattle.nor_bank.specs.Way.{Holds, HoldsAll}
@@ -266,15 +265,6 @@ abbrev pub locks_by : Op → BankState → List Bool → List Bool
 locks_by (Lock k) new locks = slice_set locks k (stands_locked new k)
 locks_by (Unlock k) new locks = slice_set locks k (stands_locked new k)
 locks_by _ new locks = locks
-
-armed_by : (after : ℕ) (armed : Option Armed) (cut : Option ArmedCut) → (armed ≡ None → ⊥) → CutIs after armed cut → IsArmed cut after
-armed_by after None cut was is = absurd (was refl)
-armed_by after (Some x) None was is = absurd is
-armed_by after (Some x) (Some cut) was is = is.0
-
--- The cut that was met is the array's.
-pub is_armed : (b : BankState) (a : ArrayState) (bus : BusState) (most : ℕ) → IsOn b a → Lost most b.bus bus → IsArmed a.armed b.after
-is_armed b a bus most on lost = armed_by b.after b.bus.armed a.armed (lost.was_armed on.power) on.cut
 
 -- What the chips hold is bytes.
 pub bytes_small : (b : BankState) → IsKnown b.found b.bus → (from len : ℕ) → AreBytes (bytes_of b from len)

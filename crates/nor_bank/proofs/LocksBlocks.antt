@@ -5,7 +5,7 @@ use Rattle.std.proofs.lemmas.Bool.{le-leb, lt-ltb, and_from}
 use Rattle.std.proofs.lemmas.List.{length-map, get_or-map}
 use Rattle.std.proofs.lemmas.List.Elements.{All-append, All-cons, All-head, All-tail, All-nil}
 use Rattle.std.proofs.lemmas.List.Sorted.{All-permutation, IsPermutation-reverse}
-use Rattle.std.proofs.Math.Nat.{mul-div_cancel, mul-lt-mul_of_pos_right, lt_of_mul-lt-mul_right}
+use Rattle.std.proofs.Math.Nat.{mul-div_cancel, mul-pos, lt_of_mul-lt-mul_right}
 use Rattle.nor_cell.specs.Bits.{unit_len}
 use Rattle.nor_cell.specs.Chip.{ChipState, block, block_at, block_of, has_blocks, is_within, no_span, place, span_end}
 use Rattle.nor_cell.specs.Ranges.{are_blocks, follow_to}
@@ -109,9 +109,6 @@ pub record BeginsAt (f : Found) (k u : ℕ) (s : ChipState) : Type 0 where
   pub from : (block (blocks_of f) k).from ≡ u * word_bytes f
   pub len : (block (blocks_of f) k).len ≡ f.geometry.lanes * (block s.part.blocks k).len
 
-some_len : (n m : ℕ) → 0 < n → 0 < m → 0 < n * m
-some_len n m lanes bytes = let wide : 0 * m < n * m = mul-lt-mul_of_pos_right lanes bytes in omega (arith, wide)
-
 -- where the bank's block k begins
 abbrev pub unit_at : Found → ℕ → ℕ
 unit_at f k = (block (blocks_of f) k).from / word_bytes f
@@ -165,7 +162,7 @@ module _ (f : Found) (bus : BusState) (known : IsKnown f bus) where
       let follow = blocks_follow f in
       let end : span_end (block (blocks_of f) k) ≤ size_of f = block_inside (size_of f) (blocks_of f) k no_span (following (size_of f) (blocks_of f) follow) there in
       let lanes : 0 < f.geometry.lanes = subst (λ (n : ℕ). 0 < n) (known_own f bus known).count some in
-      let wide : 0 < (block (blocks_of f) k).len = subst (λ (n : ℕ). 0 < n) (sym len) (some_len f.geometry.lanes (block (lane bus 0).part.blocks k).len lanes (omega arith)) in
+      let wide : 0 < (block (blocks_of f) k).len = subst (λ (n : ℕ). 0 < n) (sym len) (mul-pos lanes (omega arith)) in
       let size = known_size f bus known in
       let less : unit_at f k * word_bytes f < units_of bus * word_bytes f = omega arith in
       record { own = known_own f bus known; there = lt_of_mul-lt-mul_right (word_bytes f) less }

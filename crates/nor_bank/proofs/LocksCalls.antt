@@ -1,5 +1,5 @@
 -- The calls about the lock of a block.
-use Rattle.std.proofs.Common.{◌≡◌, ◌<◌, ◌≤◌, ◌+◌, ◌/◌, ◌⊎◌, inl, inr, ℕ, List, [], ◌∷◌, length, slice_set, refl, sym, ◌∙◌, ap, subst, arith, Bool, true, false, Option, Some, None}
+use Rattle.std.proofs.Common.{◌≡◌, ◌<◌, ◌≤◌, ◌+◌, ◌/◌, ◌⊎◌, inl, inr, ℕ, List, [], ◌∷◌, length, slice_set, refl, sym, ◌∙◌, ap, subst, arith, Bool, true, false, None}
 use Rattle.std.specs.Prelude.{◌&&◌, not}
 use Rattle.std.proofs.lemmas.Bool.{leb-false}
 use Rattle.nor_cell.specs.Between.{IsShown}
@@ -17,7 +17,7 @@ use Rattle.nor_probe.specs.declared.probing.Found.{Found}
 use Rattle.nor_array.specs.Array.{ArrayState, is_locked as is_locked_in}
 use Rattle.nor_array.specs.Admits.{LockLeaves, lock_byte}
 use Rattle.nor_array.specs.Needs.{needs_of, lock_call}
-use Rattle.nor_array.specs.Refusals.{first_some, has_nothing, is_outside, is_too_long, kept_halt, when, while_open}
+use Rattle.nor_array.specs.Refusals.{has_nothing, is_outside, is_too_long, kept_halt, when, while_open}
 use Rattle.nor_array.specs.declared.needs.CallNeeds.{CallNeeds}
 use Rattle.nor_array.specs.declared.entry.Halted.TheVariants.{Off}
 use Rattle.nor_array.specs.declared.entry.Op.{Op}
@@ -31,8 +31,9 @@ use Rattle.nor_bank.specs.Refused.{Works, outline}
 use Rattle.nor_bank.specs.Stands.{Stands}
 use Rattle.nor_bank.specs.State.{BankState, blocks_of}
 use Rattle.nor_bank.specs.Way.{BeginsWork, HasNeeds, Holds, IsReady, halting, way_most}
-use Rattle.nor_bank.specs.Whole.{IsCallOf, may_answer}
+use Rattle.nor_bank.specs.Whole.{IsCallOf, MayAnswer}
 use Rattle.nor_bank.specs.Work.{with_bus}
+use Rattle.nor_bank.proofs.Beginning.{none_first}
 use Rattle.nor_bank.proofs.Ending.{EndsWork, HaltsWork, ended_call, lost_call, polls}
 use Rattle.nor_bank.proofs.HoldingLanes.{Serves}
 use Rattle.nor_bank.proofs.LocksReading.{ReadsAt}
@@ -48,10 +49,6 @@ pub read_needs : (k : ℕ) → HasNeeds (lock_call k) (IsLocked k)
 read_needs k = record { are = refl; unpolled = λ is. cc; arms = λ cut mask is. cc; powers = λ is. cc }
 
 -- ---- where nothing refuses it
-
-first_none : (first : Option Reply) (later : List (Option Reply)) → first_some (first ∷ later) ≡ None → (first ≡ None) × (first_some later ≡ None)
-first_none None later none = (refl, none)
-first_none (Some r) later none = absurd (cc)
 
 is_not : (holds : Bool) (reply : Reply) → when holds reply ≡ None → holds ≡ false
 is_not true reply none = absurd (cc)
@@ -69,12 +66,12 @@ pub record HasLock (k : ℕ) (b : BankState) : Type 0 where
 pub has_lock : (caller k : ℕ) (op : Op) (b : BankState) → needs_of op ≡ lock_call k → Works caller op b → HasLock k b
 has_lock caller k op b needs works =
     let o = outline b in
-    let outside = first_none (when (is_outside o (needs_of op).reach) OutOfRange) _ works.unrefused in
-    let long = first_none (when (is_too_long (needs_of op).reach) TooLong) _ outside.1 in
-    let kept = first_none (kept_halt o.power o.armed op) _ long.1 in
-    let nothing = first_none (when (has_nothing o caller op) Nothing) _ kept.1 in
-    let busy = first_none (while_open o.under o (needs_of op)) _ nothing.1 in
-    let locks = first_none (when ((needs_of op).locks && not (locks_of b.found.query.extended)) NoLocks) _ busy.1 in
+    let outside = none_first (when (is_outside o (needs_of op).reach) OutOfRange) _ works.unrefused in
+    let long = none_first (when (is_too_long (needs_of op).reach) TooLong) _ outside.1 in
+    let kept = none_first (kept_halt o.power o.armed op) _ long.1 in
+    let nothing = none_first (when (has_nothing o caller op) Nothing) _ kept.1 in
+    let busy = none_first (while_open o.under o (needs_of op)) _ nothing.1 in
+    let locks = none_first (when ((needs_of op).locks && not (locks_of b.found.query.extended)) NoLocks) _ busy.1 in
     record {
       there = leb-false (length (blocks_of b.found)) k
           (ap (λ (n : CallNeeds). is_outside o n.reach) (sym needs) ∙ is_not (is_outside o (needs_of op).reach) OutOfRange outside.0);
@@ -116,7 +113,7 @@ pub bit_call : (caller k : ℕ) (locked : Bool) (old mid new : BankState) → Be
     → ((a : ArrayState) → ShowsArray mid a → locked ≡ is_locked_in a k) → IsCallOf caller (IsLocked k) old new (Bit locked) []
 bit_call caller k locked old mid new begins reads told =
     let few = reads.few in
-    ended_call false way_most reads.cycles caller (IsLocked k) old mid new (Bit locked) [] begins refl refl refl refl reads.kept reads.went (omega (arith, few))
+    ended_call false way_most reads.cycles caller (IsLocked k) old mid new (Bit locked) [] begins refl refl refl tt reads.kept reads.went (omega (arith, few))
     (λ a stands before ready.
     let shows = mid_shows way_most caller k (IsLocked k) old mid refl begins a before ready in
     record {
@@ -187,12 +184,12 @@ halts_by false k n mid new a holds was erases suspends =
 record IsLockOp (op : Op) (k : ℕ) (b : BankState) : Type 0 where
   needs : needs_of op ≡ lock_call k
   other : polls op ≡ false
-  answers : may_answer op Done ≡ true
+  answers : MayAnswer op b Done
   most : call_most op b ≡ 80
 
 is_lock_op : (locked : Bool) (k : ℕ) (b : BankState) → IsLockOp (lock_op locked k) k b
-is_lock_op true k b = record { needs = refl; other = refl; answers = refl; most = refl }
-is_lock_op false k b = record { needs = refl; other = refl; answers = refl; most = refl }
+is_lock_op true k b = record { needs = refl; other = refl; answers = tt; most = refl }
+is_lock_op false k b = record { needs = refl; other = refl; answers = tt; most = refl }
 
 pub lock_there : (caller k : ℕ) (locked : Bool) (old mid : BankState) → BeginsWork false way_most caller (lock_op locked k) old mid → HasLock k mid
 lock_there caller k locked old mid begins = mid_has way_most caller k (lock_op locked k) old mid (is_lock_op locked k old).needs begins

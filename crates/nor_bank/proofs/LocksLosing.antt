@@ -4,7 +4,7 @@ use Rattle.nor_cell.specs.Chip.{ChipState}
 use Rattle.nor_query.specs.Derived.{locks_of}
 use Rattle.nor_bus.specs.Bus.{BusState, lane, chip_at}
 use Rattle.nor_bus.specs.Driven.{EachLane, Reaches, Lost}
-use Rattle.nor_bus.proofs.Driving.{went_none, lost_then}
+use Rattle.nor_bus.proofs.Driving.{lost_then}
 use Rattle.nor_poll.specs.Lock.{OffersLocks}
 use Rattle.nor_poll.specs.Losing.{IsUnmoved, Loses, LosesNone}
 use Rattle.nor_poll.specs.UnderErase.{KeepsOutside}
@@ -20,14 +20,12 @@ use Rattle.nor_bank.specs.Work.{with_bus}
 use Rattle.nor_bank.specs.declared.kept.Erasing.{Erasing}
 use Rattle.nor_bank.proofs.Holding.{holds_outside}
 use Rattle.nor_bank.proofs.LocksReading.{ReadsAt, lock_offered, read_cycles, read_few, read_reached, read_wide}
+use Rattle.nor_bank.proofs.Using.{lost_within}
 
 -- ---- a chip of which nothing is lost
 
 pub lost_outside : (s t : ChipState) → Loses 0 [] s t → KeepsOutside s t
 lost_outside s t loses p out = loses.above p out (omega arith)
-
-pub lost_within : (m n : ℕ) (a b : BusState) → m ≤ n → Lost m a b → Lost n a b
-lost_within m n a b most lost = lost_then 0 m n a a b (omega arith) (went_none a) lost
 
 -- ---- the bank
 

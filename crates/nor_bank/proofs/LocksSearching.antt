@@ -1,11 +1,11 @@
 -- The lowest locked block, as it is looked for block by block.
-use Rattle.std.proofs.Common.{◌≡◌, ◌<◌, ◌≤◌, ◌+◌, ◌-◌, ◌*◌, ◌⊎◌, inl, inr, ℕ, zero, suc, List, length, refl, sym, ◌∙◌, ap, subst, arith, Bool, true, false, Option, Some, None}
+use Rattle.std.proofs.Common.{◌≡◌, ◌<◌, ◌≤◌, ◌+◌, ◌-◌, ◌*◌, ◌⊎◌, inl, inr, ℕ, zero, suc, List, length, refl, sym, ◌∙◌, ap, subst, arith, Bool, true, false, Some, None}
 use Rattle.std.specs.Prelude.{◌&&◌, nat_le, nat_lt, slice_index_or, if◌then◌else◌}
-use Rattle.std.proofs.lemmas.Bool.{cases_lt, le-leb, lt-ltb, le-ltb, lt-leb, and_from}
-use Rattle.nor_cell.specs.Chip.{block, is_locked}
+use Rattle.std.proofs.lemmas.Bool.{cases_lt, le-leb, lt-ltb, le-ltb, lt-leb, and_from, and_left, and_right}
+use Rattle.nor_cell.specs.Chip.{block}
 use Rattle.nor_cell.specs.declared.device.Span.{Span}
 use Rattle.nor_query.specs.Derived.{locks_of}
-use Rattle.nor_bus.specs.Bus.{BusState, lane, lanes_of}
+use Rattle.nor_bus.specs.Bus.{lane}
 use Rattle.nor_probe.specs.declared.probing.Found.{Found}
 use Rattle.nor_array.specs.Array.{ArrayState, Constants, is_locked as is_locked_in, lowest, meets}
 use Rattle.nor_array.specs.Admits.{lowest_locked}
@@ -14,7 +14,7 @@ use Rattle.nor_array.specs.declared.needs.Reach.{Reach}
 use Rattle.nor_array.specs.declared.needs.Reach.TheVariants.{Nowhere, Range, Block, Everywhere}
 use Rattle.nor_array.specs.declared.entry.Reply.{Reply}
 use Rattle.nor_array.proofs.Lowest.{lowest_over}
-use Rattle.nor_bank.specs.Locks.{ShowsArray, ReadsLocks, LosesLocks, blocks_met, locks_most}
+use Rattle.nor_bank.specs.Locks.{HasReadLock, ShowsArray, ReadsLocks, LosesLocks, blocks_met, locks_most}
 use Rattle.nor_bank.specs.Refused.{outline}
 use Rattle.nor_bank.specs.Stands.{Stands}
 use Rattle.nor_bank.specs.State.{BankState, blocks_of}
@@ -36,26 +36,19 @@ lowest_fails test k (suc n) fails =
 abbrev pub TouchesTo : ArrayState → Reach → (first end : ℕ) → Type 0
 TouchesTo a reach first end = (k : ℕ) → k < length a.consts.blocks → touches a reach k ≡ (nat_le first k && nat_lt k end)
 
-none_from : (test locked : Bool) → test ≡ false → (test && locked) ≡ false
-none_from test locked is = cc
-
-none_by : (test locked : Bool) → locked ≡ false → (test && locked) ≡ false
-none_by true locked is = is
-none_by false locked is = refl
-
 -- a block before or behind them isn't touched
 before : (first end k : ℕ) → k < first → (nat_le first k && nat_lt k end) ≡ false
-before first end k less = none_from (nat_le first k) (nat_lt k end) (lt-leb first k less)
+before first end k less = and_left (nat_le first k) (nat_lt k end) (lt-leb first k less)
 
 behind : (first end k : ℕ) → end ≤ k → (nat_le first k && nat_lt k end) ≡ false
-behind first end k past = none_by (nat_le first k) (nat_lt k end) (le-ltb k end past)
+behind first end k past = and_right (nat_le first k) (nat_lt k end) (le-ltb k end past)
 
 module _ (a : ArrayState) (reach : Reach) (first end : ℕ) (touched : TouchesTo a reach first end) where
   fails : (next k : ℕ) → k < length a.consts.blocks → k < next → ((j : ℕ) → first ≤ j → j < next → is_locked_in a j ≡ false)
       → (touches a reach k && is_locked_in a k) ≡ false
   fails next k there below none = elim (cases_lt k first) [
-    | inl less ↦ none_from (touches a reach k) (is_locked_in a k) (touched k there ∙ before first end k less)
-    | inr more ↦ none_by (touches a reach k) (is_locked_in a k) (none k more below)
+    | inl less ↦ and_left (touches a reach k) (is_locked_in a k) (touched k there ∙ before first end k less)
+    | inr more ↦ and_right (touches a reach k) (is_locked_in a k) (none k more below)
   ]
 
   -- None of these is locked.
@@ -65,7 +58,7 @@ module _ (a : ArrayState) (reach : Reach) (first end : ℕ) (touched : TouchesTo
       let there : k < length a.consts.blocks = omega arith in
       elim (cases_lt k next) [
         | inl less ↦ fails next k there less none
-        | inr more ↦ none_from (touches a reach k) (is_locked_in a k) (touched k there ∙ behind first end k (omega arith))
+        | inr more ↦ and_left (touches a reach k) (is_locked_in a k) (touched k there ∙ behind first end k (omega arith))
       ])
 
   -- This is the first that is.
@@ -92,7 +85,7 @@ touched_so b a reach first end stands touched k there =
 -- ---- where no locks are offered
 
 none_set : (test : Bool) (k : ℕ) (ls ms : List Bool) → ms ≡ ls → slice_index_or ms k false ≡ false → (test && slice_index_or ls k false) ≡ false
-none_set test k ls ms same none = none_by test (slice_index_or ls k false) (ap (λ (x : List Bool). slice_index_or x k false) (sym same) ∙ none)
+none_set test k ls ms same none = and_right test (slice_index_or ls k false) (ap (λ (x : List Bool). slice_index_or x k false) (sym same) ∙ none)
 
 pub none_offered : (b : BankState) (a : ArrayState) (reach : Reach) → locks_of b.found.query.extended ≡ false → Stands b a → lowest_locked a reach ≡ None
 none_offered b a reach none stands =
@@ -173,6 +166,12 @@ module _ (old : BankState) (reach : Reach) (first end : ℕ) (is : SearchesIn ol
     search_found new from below reads =
         let most = most_is in
         reads_then (6 * (next - first)) 6 (locks_most old.found reach) old now new (omega (arith, most)) so_far.reads reads
+
+    pub found_read : first ≤ next → next < end → HasReadLock old reach next
+    found_read from below =
+        let last = is.there in
+        let there : next < length (blocks_of old.found) = omega (arith, below, last) in
+        record { offers = is.offers; there = there; touched = is.touched next there ∙ and_from _ _ (le-leb first next from) (lt-ltb next end below) }
 
     pub found_lowest : first ≤ next → next < end → ((a : ArrayState) → ShowsArray now a → true ≡ is_locked_in a next)
         → (a : ArrayState) → ShowsArray old a → Some next ≡ lowest_locked a reach

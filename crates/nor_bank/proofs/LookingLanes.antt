@@ -1,5 +1,5 @@
 -- What a chip under erase is, by where its lane is, and what a look at the erase makes of it.
-use Rattle.std.proofs.Common.{◌≡◌, ◌≢◌, ◌<◌, ◌+◌, ◌⊎◌, inl, inr, ℕ, List, [], slice_index, refl, sym, ◌∙◌, ap, subst, arith, true}
+use Rattle.std.proofs.Common.{◌≡◌, ◌≢◌, ◌+◌, ◌⊎◌, inl, inr, ℕ, List, [], slice_index, refl, sym, ◌∙◌, ap, subst, arith, true}
 use Rattle.std.proofs.lemmas.Bool.{cases_lt}
 use Rattle.nor_cell.specs.Chip.{ChipState, Part, Job, Idle, Target, Held, is_within, covered, reads_left, has_blocks}
 use Rattle.nor_cell.specs.Between.{Waits, IsShown, reset}
@@ -94,13 +94,7 @@ takes_resume set target state s waits blocks is shown apart = record {
 -- ---- what it makes of a lane
 
 pub looks_at : (set : Set) (target : Target) (before after : LaneState) (cycles : ℕ) (s t : ChipState) → LaneLooks set target before after cycles s t → LooksAt cycles s t
-looks_at set target before after cycles s t it = record { remains = it.stays.remains; suspends = it.suspends; left = it.left; nears = it.nears }
-
-none_or_some : (n : ℕ) → (n ≡ 0) ⊎ (0 < n)
-none_or_some n = elim (cases_lt 0 n) [
-  | inl some ↦ inr some
-  | inr none ↦ inl (omega arith)
-]
+looks_at set target before after cycles s t it = record { remains = it.stays.remains; suspends = it.suspends; left = (it.most, it.left); nears = it.nears }
 
 works_by : (s : ChipState) → HasLeft s → WorksOn s
 works_by s (inl some) = inl (omega (arith, some))
@@ -134,9 +128,9 @@ looks_once set target before after n reads s t takes ran it = record {
   suspends = it.keeps.suspends;
   most = it.keeps.most;
   left = let few = it.few in omega (arith, few);
-  nears = λ sound. elim (none_or_some (erase_left s)) [
-    | inl none ↦ inl (let most = it.keeps.most in omega (arith, none, most))
-    | inr some ↦ inr (it.fewer sound some)
+  nears = λ sound. elim (cases_lt 0 (erase_left s)) [
+    | inl some ↦ inr (it.fewer sound some)
+    | inr none ↦ inl (let most = it.keeps.most in omega (arith, none, most))
   ];
   works = λ runs. elim ran [
     | inl was ↦ works_by s (it.works was runs)

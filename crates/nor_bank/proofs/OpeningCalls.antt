@@ -1,6 +1,6 @@
 -- A call that begins an erase.
 use Rattle.std.proofs.Common.{◌≡◌, ◌<◌, ◌≤◌, ◌+◌, ◌*◌, ◌/◌, ℕ, suc, List, [], ◌∷◌, length, slice_index, refl, sym, ◌∙◌, ap, subst, arith, Bool, true, false, Option, Some, None}
-use Rattle.std.specs.Prelude.{◌&&◌, ◌==◌, not, nat_le, if◌then◌else◌, slice_index_or}
+use Rattle.std.specs.Prelude.{◌&&◌, ◌==◌, not, nat_le, slice_index_or}
 use Rattle.std.proofs.lemmas.Bool.{leb-false}
 use Rattle.nor_cell.specs.Between.{IsQuiet, TakesCommands}
 use Rattle.nor_cell.specs.Chip.{block, block_of, is_locked, is_any_set, OneBlock, AllBlocks}
@@ -48,12 +48,13 @@ use Rattle.nor_bank.specs.declared.kept.Erasing.{Erasing}
 use Rattle.nor_bank.proofs.Beginning.{may_work, closed_before}
 use Rattle.nor_bank.proofs.Blocks.{none_passes}
 use Rattle.nor_bank.proofs.Ending.{polls, opened_call, lost_call}
+use Rattle.nor_bank.proofs.HaltingLocks.{if_most}
 use Rattle.nor_bank.proofs.Holding.{spared_by, locks_by}
 use Rattle.nor_bank.proofs.HoldingLanes.{none_erasing}
 use Rattle.nor_bank.proofs.Known.{known_own, known_parts, known_some}
 use Rattle.nor_bank.proofs.Lasting.{StaysKnown, stays_locked, known_lasts, constants_last}
 use Rattle.nor_bank.proofs.LocksBlocks.{block_begins, block_reached}
-use Rattle.nor_bank.proofs.OpeningStands.{Begins, stands_opened, counts_opened, same_bytes}
+use Rattle.nor_bank.proofs.OpeningStands.{Begins, stands_opened, counts_opened, left_opened, same_bytes}
 use Rattle.nor_bank.proofs.Standing.{quiet_now, is_on_now, byte_now, bytes_known}
 
 -- ---- what nothing refuses
@@ -108,15 +109,11 @@ needs_all needs are = record { are = sym are; unpolled = λ is. cc; arms = λ af
 
 -- ---- locks
 
-unlocked_by : (t locked : Bool) → t ≡ true → (t && locked) ≡ false → locked ≡ false
-unlocked_by true locked is none = none
-unlocked_by false locked is none = absurd (cc)
-
 -- the block is unlocked
 unlocked_block : (a : ArrayState) (k : ℕ) → k < length a.consts.blocks → first_locked a (EraseOpen k) ≡ None → is_locked_in a k ≡ false
 unlocked_block a k there none =
-    unlocked_by (k == k) (is_locked_in a k) (same_self k)
-    (none_passes (λ n. touches a (Block k) n && is_locked_in a n) 0 (length a.consts.blocks) k none (omega arith) (omega arith))
+    sym (ap (λ (t : Bool). t && is_locked_in a k) (same_self k))
+    ∙ none_passes (λ n. touches a (Block k) n && is_locked_in a n) 0 (length a.consts.blocks) k none (omega arith) (omega arith)
 
 none_set : (locks : List Bool) → ((k : ℕ) → k < length locks → slice_index_or locks k false ≡ false) → is_any_set locks ≡ false
 none_set [] none = refl
@@ -133,25 +130,21 @@ unlocked_all a count none =
 
 -- ---- how many cycles
 
-at_most : (b : Bool) (n : ℕ) → (if b then n else 0) ≤ n
-at_most true n = omega arith
-at_most false n = omega arith
-
 few_codes : (set : Set) → cycle_count set EraseBlock ≤ 6
 few_codes Intel = omega arith
 few_codes Amd = omega arith
 
 few_block : (b : BankState) (k : ℕ) (set : Set) → change_most b (EraseOpen k) + cycle_count set EraseBlock ≤ call_most (EraseOpen k) b
 few_block b k set =
-    let way = at_most (is_open b.erase) 43 in
-    let locks = at_most (locks_of b.found.query.extended) 6 in
+    let way = if_most (is_open b.erase) 43 in
+    let locks = if_most (locks_of b.found.query.extended) 6 in
     let codes = few_codes set in
     omega (arith, way, locks, codes)
 
 few_all : (b : BankState) → change_most b EraseAll + cycle_count Amd EraseAllBlocks ≤ call_most EraseAll b
 few_all b =
-    let way = at_most (is_open b.erase) 43 in
-    let locks = at_most (locks_of b.found.query.extended) (6 * length (blocks_of b.found)) in
+    let way = if_most (is_open b.erase) 43 in
+    let locks = if_most (locks_of b.found.query.extended) (6 * length (blocks_of b.found)) in
     omega (arith, way, locks)
 
 -- ---- the bank that begins
@@ -277,6 +270,7 @@ module _ (most n caller : ℕ) (op : Op) (target : Target) (old mid last new : B
         ∙ (ap (λ (k : ℕ). record a { under = Some (record { target = target; caller = k }) }) begun.caller_is ∙ sym (array a)) in
         record {
           erases = counts_opened n n mid new e a facts mine running closed;
+          left = left_opened n n mid new e a facts mine running closed caller op is;
           stands = subst (λ (x : ArrayState). Stands new x) under (stands_opened n n mid new e a facts mine running closed);
         })
 

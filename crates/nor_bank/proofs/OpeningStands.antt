@@ -3,9 +3,9 @@ use Rattle.std.proofs.Common.{◌≡◌, ◌<◌, ◌≤◌, ◌+◌, ℕ, lengt
 use Rattle.std.proofs.Math.Nat.{min-le_right}
 use Rattle.nor_cell.specs.Bits.{AreBytes, unit_len}
 use Rattle.nor_cell.specs.Between.{Waits, IsQuiet}
-use Rattle.nor_cell.specs.Chip.{ChipState, Array, Status, NotHeld, Fault, NoFault, Target as ChipTarget, OneBlock, AllBlocks, counted}
+use Rattle.nor_cell.specs.Chip.{ChipState, Part, Array, Status, NotHeld, Fault, NoFault, Target as ChipTarget, OneBlock, AllBlocks, counted}
 use Rattle.nor_cell.specs.Machine.{work_of}
-use Rattle.nor_cell.specs.Table.{limit, most_reads, typical, greatest}
+use Rattle.nor_cell.specs.Table.{limit, left_at_start, most_reads, typical, greatest}
 use Rattle.nor_cell.specs.Wiring.{lane_at, place_at}
 use Rattle.nor_cell.specs.declared.device.Device.{Device}
 use Rattle.nor_cell.specs.declared.device.Set.{Set}
@@ -24,8 +24,11 @@ use Rattle.nor_poll.specs.declared.lanes.LaneState.TheVariants.{Running, Suspend
 use Rattle.nor_probe.specs.declared.probing.Found.{Found}
 use Rattle.nor_array.specs.Array.{ArrayState, IsThere, chip_target}
 use Rattle.nor_array.specs.declared.entry.Halted.{Halted as HaltCause}
+use Rattle.nor_array.specs.declared.entry.Op.{Op}
+use Rattle.nor_array.specs.declared.entry.Op.TheVariants.{Read, Program, EraseOpen, EraseAll, Poll, Lock, Unlock, IsLocked, Arm, PowerOn}
 use Rattle.nor_array.specs.declared.state.Target.{Target}
 use Rattle.nor_array.specs.declared.state.Target.TheVariants.{OneBlock as OneOfBank, AllBlocks as AllOfBank}
+use Rattle.nor_bank.specs.Counts.{IsNew, start_left}
 use Rattle.nor_bank.specs.Stands.{Stands, IsOn, PowerIs}
 use Rattle.nor_bank.specs.State.{BankState, blocks_of, erase_limit}
 use Rattle.nor_bank.specs.UnderErase.{IsUnderErase, HasPollsLeft}
@@ -76,6 +79,28 @@ enough_begun f e set s t part fresh free erases = λ whole some.
     let most = left_begun (chip_target e.target) set s free in
     let limits = limit_is f s e.target part in
     omega (arith, left, most, limits, fresh)
+
+-- they are those of the chip's own pace
+left_erasing : (target : ChipTarget) (set : Set) (s t : ChipState) → s.held ≡ NotHeld → IsErasing set target s t
+    → erase_left t ≡ left_at_start (work_of target) s.part.pace_erase s.part.table
+left_erasing target set s t free erases =
+    let left : erase_left t ≡ erase_left (erasing set target s) = ap erase_left erases.is in
+    let none : held_left s.held ≡ 0 = ap held_left free in
+    omega (arith, left, none)
+
+-- as the call that opens it says
+opened_so : (caller : ℕ) (op : Op) (e : Erasing) (part : Part) → IsNew caller op (Some e)
+    → left_at_start (work_of (chip_target e.target)) part.pace_erase part.table ≡ start_left op part
+opened_so caller (EraseOpen b) e part is = ap (λ (t : Target). left_at_start (work_of (chip_target t)) part.pace_erase part.table) is.0
+opened_so caller EraseAll e part is = ap (λ (t : Target). left_at_start (work_of (chip_target t)) part.pace_erase part.table) is.0
+opened_so caller (Read at len) e part is = absurd is
+opened_so caller (Program at new) e part is = absurd is
+opened_so caller Poll e part is = absurd is
+opened_so caller (Lock b) e part is = absurd is
+opened_so caller (Unlock b) e part is = absurd is
+opened_so caller (IsLocked b) e part is = absurd is
+opened_so caller (Arm cut mask) e part is = absurd is
+opened_so caller PowerOn e part is = absurd is
 
 -- ---- bytes of a bank whose chips have the same cells
 
@@ -187,3 +212,9 @@ module _ (least most : ℕ) (mid new : BankState) (e : Erasing) (a : ArrayState)
   -- Each lane has counted an erase.
   pub counts_opened : EachLane (λ s t. (t.erases ≡ counted s.erases) × (t.suspends ≡ s.suspends)) mid.bus new.bus
   counts_opened c below = (ap (λ (x : ChipState). x.erases) (begins.begun c below).is, ap (λ (x : ChipState). x.suspends) (begins.begun c below).is)
+
+  -- Its reads left are those of the chip's own pace.
+  pub left_opened : (caller : ℕ) (op : Op) → IsNew caller op (Some e) → EachLane (λ s t. erase_left t ≡ start_left op s.part) mid.bus new.bus
+  left_opened caller op is c below =
+      let s = lane mid.bus c in
+      left_erasing (chip_target e.target) mid.found.query.set s (lane new.bus c) (quiet c below).held (begins.begun c below) ∙ opened_so caller op e s.part is

@@ -62,7 +62,7 @@ same_outside b a stands (Range at len) = ap (λ (n : ℕ). nat_lt n (at + len)) 
 same_outside b a stands (Block k) = ap (λ (consts : Constants). nat_le (length consts.blocks) k) stands.consts
 same_outside b a stands Everywhere = refl
 
-armed_is : (armed : Option ArmedCut) (n : ℕ) → IsArmed armed n → armed_after armed ≡ n
+pub armed_is : (armed : Option ArmedCut) (n : ℕ) → IsArmed armed n → armed_after armed ≡ n
 armed_is None n is = absurd is
 armed_is (Some cut) n is = is
 

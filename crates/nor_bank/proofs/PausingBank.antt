@@ -38,12 +38,13 @@ use Rattle.nor_bank.specs.declared.kept.Erasing.{Erasing}
 use Rattle.nor_bank.proofs.Holding.{fits, stands_by}
 use Rattle.nor_bank.proofs.Known.{known_own, known_parts}
 use Rattle.nor_bank.proofs.LocksBlocks.{block_begins}
-use Rattle.nor_bank.proofs.LocksLosing.{kept_halt, lost_within}
+use Rattle.nor_bank.proofs.LocksLosing.{kept_halt}
 use Rattle.nor_bank.proofs.LookingBank.{kept_there, holds_open, under_now, reached_now}
 use Rattle.nor_bank.proofs.LookingLanes.{idle_of}
 use Rattle.nor_bank.proofs.PausingLanes.{known_suspend, lets_program, passes_idle, stays_suspended, counts_once, may_count, shown_after, names_after, passes_suspended}
 use Rattle.nor_bank.proofs.Served.{wide_is}
 use Rattle.nor_bank.proofs.Standing.{is_on_now, cut_nearer}
+use Rattle.nor_bank.proofs.Using.{lost_within}
 
 -- ---- how many cycles there are
 
@@ -234,7 +235,7 @@ module _ (width : ℕ) (b : BankState) (e : Erasing) (wiring : is_wiring width b
     loses_by (Stuck j) it =
         let n = cycle_count b.found.query.set SuspendErase + stuck_reads b.found.query.set in
         let bounds = stuck_cycles b.found.query.set in (
-          record { cycles = n; enough = bounds.0; few = bounds.1; went = it.went },
+          (it.there, record { cycles = n; enough = bounds.0; few = bounds.1; went = it.went }),
           λ block a stands.
               let of_block = subst (λ (o : Option Erasing). IsOfBlock o) opened block in
               let mine : j < lanes_of b.bus = subst (λ (m : ℕ). j < m) (sym (known_own b.found b.bus stands.known).count) it.there in

@@ -1,6 +1,7 @@
 -- What a suspend of the erase of a block makes of its lanes.
 use Rattle.std.proofs.Common.{◌≡◌, ◌<◌, ◌≤◌, ◌+◌, inl, inr, ℕ, List, slice_index, refl, sym, ◌∙◌, ap, subst, arith, Bool, true, false, None}
 use Rattle.std.specs.Prelude.{◌&&◌, not, if◌then◌else◌}
+use Rattle.std.proofs.lemmas.Bool.{and_right}
 use Rattle.nor_cell.specs.Between.{IsShown}
 use Rattle.nor_cell.specs.Chip.{ChipState, Job, Idle, OneBlock, Fault, counted}
 use Rattle.nor_cell.specs.Table.{extended, extended_at, set_of, suspend_kind, suspend_of as chip_suspend_of, intel_suspend, amd_suspend}
@@ -60,19 +61,16 @@ lets_program false s may = tt
 
 -- ---- a lane that doesn't run
 
+-- a chip without a job isn't suspended
 pub no_pause : (s : ChipState) → s.job ≡ Idle → pauses s ≡ false
-no_pause s idle = ap (λ (j : Job). not s.part.stuck && is_long s.part.pace_suspend j) idle ∙ never (not s.part.stuck)
-  where
-    never : (b : Bool) → (b && false) ≡ false
-    never true = refl
-    never false = refl
+no_pause s idle = ap (λ (j : Job). not s.part.stuck && is_long s.part.pace_suspend j) idle ∙ and_right (not s.part.stuck) false refl
 
 pub none_counted : (may : Bool) (s : ChipState) → pauses s ≡ false → s.suspends ≡ suspends_after may s
 none_counted true s none = sym (ap (λ (b : Bool). if b then counted s.suspends else s.suspends) none)
 none_counted false s none = refl
 
 pub passes_idle : (may : Bool) (s : ChipState) → s.job ≡ Idle → PassesBy may 0 s s
-passes_idle may s idle = record { remains = remains_self s; suspends = none_counted may s (no_pause s idle); left = omega arith }
+passes_idle may s idle = record { remains = remains_self s; suspends = none_counted may s (no_pause s idle); left = (omega arith, omega arith) }
 
 -- ---- a lane in a suspend
 
@@ -102,5 +100,5 @@ module _ (set : Set) (b : ℕ) (before after : LaneState) (reads : ℕ) (s t : C
   passes_suspended may cycles is few = record {
     remains = it.keeps.remains;
     suspends = it.suspends ∙ sym (ap (λ (x : Bool). if x && pauses s then counted s.suspends else s.suspends) is);
-    left = let fewer = it.few in omega (arith, few, fewer);
+    left = (it.keeps.most, let fewer = it.few in omega (arith, few, fewer));
   }

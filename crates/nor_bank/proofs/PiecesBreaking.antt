@@ -1,5 +1,5 @@
 -- Which lanes break off in bus words that are programmed at once.
-use Rattle.std.proofs.Common.{◌≡◌, ◌<◌, ◌≤◌, ◌+◌, ◌-◌, ◌*◌, ◌/◌, ◌%◌, ◌⊎◌, inl, inr, ℕ, List, length, slice_index, sym, ap, ◌∙◌, arith, Bool, true, ◌&&◌, ◌||◌, nat_le, nat_lt, is_some}
+use Rattle.std.proofs.Common.{◌≡◌, ◌<◌, ◌≤◌, ◌+◌, ◌-◌, ◌*◌, ◌/◌, ◌%◌, inl, inr, ℕ, List, length, slice_index, sym, ap, ◌∙◌, arith, Bool, true, ◌&&◌, ◌||◌, nat_le, nat_lt, is_some}
 use Rattle.std.specs.List.{list_any}
 use Rattle.std.proofs.lemmas.Nat.{div-add-mod'}
 use Rattle.std.proofs.Math.Nat.{mul-le-mul_right, lt_of_mul-lt-mul_right}

@@ -1,15 +1,12 @@
 -- A program of a bank, from what became of its range to the record of the call.
-use Rattle.std.proofs.Common.{◌≡◌, ◌≢◌, ◌<◌, ◌≤◌, ◌+◌, ◌-◌, ◌*◌, ◌/◌, ◌⊎◌, inl, inr, ℕ, zero, suc, List, [], length, map, max, min, refl, sym, ap, subst, ◌∙◌, arith, Bool, true, false, Option, Some, None, if◌then◌else◌}
-use Rattle.std.specs.Prelude.{◌==◌}
-use Rattle.std.proofs.lemmas.Bool.{cases_lt}
+use Rattle.std.proofs.Common.{◌≡◌, ◌<◌, ◌≤◌, ◌+◌, ◌*◌, ◌/◌, ◌⊎◌, inl, inr, ℕ, zero, suc, List, [], length, map, max, min, refl, sym, ap, subst, ◌∙◌, arith, Bool, true, false, Option, Some, None, if◌then◌else◌}
 use Rattle.nor_cell.specs.Chip.{ChipState}
 use Rattle.nor_cell.specs.declared.device.Set.{Set}
 use Rattle.nor_cell.specs.declared.device.Set.TheVariants.{Intel, Amd}
 use Rattle.nor_cell.proofs.Logic.{same_number}
 use Rattle.nor_probe.specs.declared.probing.Found.{Found}
-use Rattle.nor_cell.specs.declared.device.Work.TheVariants.{Buffer, Word}
-use Rattle.nor_query.specs.Derived.{limit_of, locks_of}
-use Rattle.nor_bus.specs.Bus.{BusState, lane, more}
+use Rattle.nor_query.specs.Derived.{locks_of}
+use Rattle.nor_bus.specs.Bus.{BusState}
 use Rattle.nor_bus.specs.Driven.{Counted}
 use Rattle.nor_bus.proofs.Counting.{counted_then}
 use Rattle.nor_bus.proofs.Driving.{went_none, went_then}
@@ -28,10 +25,10 @@ use Rattle.nor_array.specs.declared.entry.Op.TheVariants.{Program}
 use Rattle.nor_array.specs.declared.entry.Reply.{Reply}
 use Rattle.nor_array.specs.declared.entry.Reply.TheVariants.{Done, Failed, Halted}
 use Rattle.nor_bank.specs.Counts.{ReadsStuck, call_most, is_open, program_limit}
-use Rattle.nor_bank.specs.Pieces.{AnswersRange, ProgramsBank, ProgramsRange, least_limit, most_limit, word_cost_in}
-use Rattle.nor_bank.specs.Programs.{GivesUp, ProgramsTo, RangeBecomes, begin_of, changes_of, end_of, goes_on}
+use Rattle.nor_bank.specs.Pieces.{AnswersRange, ProgramsBank, ProgramsRange, word_cost_in}
+use Rattle.nor_bank.specs.Programs.{AreSome, GivesUp, MeetsPiece, ProgramsTo, RangeBecomes, begin_of, changes_of, end_of, goes_on}
 use Rattle.nor_bank.specs.Ranges.{words_met}
-use Rattle.nor_bank.specs.Runs.{FailsInRun, IsRun, WordChanges}
+use Rattle.nor_bank.specs.Runs.{FailsInRun, IsRun, WordChanges, least_limit, most_limit}
 use Rattle.nor_bank.specs.Stands.{Stands}
 use Rattle.nor_bank.specs.State.{BankState, IsBankOf, IsDark, size_of, word_bytes}
 use Rattle.nor_bank.specs.Way.{BeginsChange, HasNeeds, IsReady, cause_of, change_most, halting}
@@ -41,10 +38,11 @@ use Rattle.nor_bank.specs.declared.kept.Erasing.{Erasing}
 use Rattle.nor_bank.specs.declared.programming.Piece.{Piece}
 use Rattle.nor_bank.specs.declared.programming.Outcome.{Outcome}
 use Rattle.nor_bank.specs.declared.programming.Outcome.TheVariants.{Skipped, Stored, BrokeOff, GivenUp}
-use Rattle.nor_bank.proofs.Beginning.{lies_in, may_work, range_beside}
+use Rattle.nor_bank.proofs.Beginning.{lies_in, may_work, range_beside, some_range}
 use Rattle.nor_bank.proofs.Changing.{passes_same, passing_same}
 use Rattle.nor_bank.proofs.Ending.{ended_call, lost_call, stuck_call}
 use Rattle.nor_bank.proofs.Failing.{program_failed}
+use Rattle.nor_bank.proofs.Halting.{more_least}
 use Rattle.nor_bank.proofs.PiecesFree.{Ready, can_program_all, ready_byte}
 use Rattle.nor_bank.proofs.Programmed.{program_done, program_halted, program_sticks}
 use Rattle.nor_bank.proofs.WeakSpans.{changes_alike}
@@ -110,10 +108,6 @@ call_fits b at n new few =
 pub program_needs : (at len : ℕ) (new : List ℕ) (needs : CallNeeds) → ((xs : List ℕ) → length xs ≡ len → needs ≡ needs_of (Program at xs)) → length new ≡ len → HasNeeds needs (Program at new)
 program_needs at len new needs are size = record { are = sym (are new size); unpolled = λ is. cc; arms = λ cut mask is. cc; powers = λ is. cc }
 
-some_bytes_of : (n : ℕ) → (n == 0) ≡ false → 0 < n
-some_bytes_of zero busy = absurd (let both : true ≡ false = busy in cc)
-some_bytes_of (suc n) busy = omega arith
-
 -- what is known of the bank up to its work
 pub record Begun (at : ℕ) (from : List ℕ) (mid : BankState) : Type 0 where
   pub running : mid.halted ≡ None
@@ -126,7 +120,7 @@ begun most caller at from old mid begins =
     let lies = lies_in (size_of old.found) at (length from) (may_work caller (Program at from) old work.works).there in
     record {
       running = ap (λ (b : BankState). b.halted) work.kept ∙ work.running;
-      some = some_bytes_of (length from) work.works.busy;
+      some = some_range (length from) work.works.busy;
       within = subst (λ (f : Found). at + length from ≤ size_of f) (sym (ap (λ (b : BankState). b.found) work.kept)) lies.within;
     }
 
@@ -150,12 +144,20 @@ on_bus {least} {most} {old} {new} {there} same counted = subst (λ (b : BankStat
 failed_parts : (from to lanes begin end broken : ℕ) → Failed from to lanes ≡ Failed begin end broken → (begin ≡ from) × (end ≡ to)
 failed_parts from to lanes begin end broken is = (cc, cc)
 
--- one of two limits was reached
-by_least : (word load n was now : ℕ) → min word load ≤ n → more n was ≤ now → (more word was ≤ now) ⊎ (more load was ≤ now)
-by_least word load n was now least enough = elim (cases_lt load word) [
-  | inl less ↦ inr (grind (arith, least, enough, less))
-  | inr order ↦ inl (grind (arith, least, enough, order))
-]
+-- The part of a range that lies in a piece which it meets; some lanes broke off there.
+less_end : (at first words w : ℕ) → 0 < words → at < (first + words) * w → first * w < (first + words) * w
+less_end at first words zero some behind = absurd (let none : (first + words) * 0 ≡ 0 = omega arith in omega (arith, none, behind))
+less_end at first words (suc v) some behind =
+    let split : (first + words) * suc v ≡ first * suc v + words * v + words = omega arith in
+    omega (arith, split, some)
+
+may_fail : (w at count lanes : ℕ) (from : List ℕ) (piece : Piece) → 0 < length from → MeetsPiece w piece at (length from) → AreSome count lanes
+    → (at ≤ max at (begin_of w piece)) × (max at (begin_of w piece) < min (at + length from) (end_of w piece)) × (min (at + length from) (end_of w piece) ≤ at + length from) × AreSome count lanes
+may_fail w at count lanes from piece more meets some =
+    let before = meets.before_end in
+    let behind = meets.behind_start in
+    let wide = less_end at piece.first piece.words w meets.some behind in
+    (grind arith, grind (arith, before, behind, more, wide), grind arith, some)
 
 -- a run of what would change is one of what would change as much
 run_alike : (w : ℕ) (f : Found) (test other : ℕ → Bool) (at len first words : ℕ) → ((p : ℕ) → test p ≡ other p) → IsRun w f test at len first words → IsRun w f other at len first words
@@ -206,7 +208,7 @@ module _ (caller at : ℕ) (from : List ℕ) (old : BankState) (x : BusState) (e
       let counted = counted_so f.geometry.lanes (least_limit f) most o x bus goes programs.takes in
       let n = counted.cycles in
       let few = counted.few in
-      ended_call true (change_most old op) n caller op old mid (with_bus mid bus) Done [] begins.begins refl refl refl refl refl counted.went (call_fits old at n from few)
+      ended_call true (change_most old op) n caller op old mid (with_bus mid bus) Done [] begins.begins refl refl refl tt refl counted.went (call_fits old at n from few)
       (λ a was stands ready.
       let its = ready_of a was stands ready in
       program_done mid a at from its caller n old bus counted.went (stored_to w f at from o x bus goes (programs.becomes (can_program_all mid a at from its))))
@@ -218,7 +220,8 @@ module _ (caller at : ℕ) (from : List ℕ) (old : BankState) (x : BusState) (e
       let counted = programs.takes in
       let n = counted.cycles in
       let few = counted.few in
-      ended_call true (change_most old op) n caller op old mid (with_bus mid bus) (Failed (max at (begin_of w piece)) (min (at + length from) (end_of w piece)) lanes.bits) [] begins.begins refl refl refl refl refl
+      ended_call true (change_most old op) n caller op old mid (with_bus mid bus) (Failed (max at (begin_of w piece)) (min (at + length from) (end_of w piece)) lanes.bits) [] begins.begins refl refl refl
+      (may_fail w at f.geometry.lanes lanes.bits from piece (begun (change_most old op) caller at from old mid begins).some programs.there programs.named) refl
       counted.went (call_fits old at n from few)
       (λ a was stands ready.
       let its = ready_of a was stands ready in
@@ -236,19 +239,19 @@ module _ (caller at : ℕ) (from : List ℕ) (old : BankState) (x : BusState) (e
       program_halted mid a at from its bus lost.kept (programs.becomes (can_program_all mid a at from its)) (LostPower old.after))
 
   -- a lane was read working too often
-  read_often : (least : ℕ) (bus : BusState) → Counted least most x bus → least ≡ least_limit f → ReadsStuck op old (halting (with_bus mid bus) (StuckLane 0))
-  read_often least bus counted is =
+  read_often : (bus : BusState) → Counted (least_limit f) most x bus → ReadsStuck op old (halting (with_bus mid bus) (StuckLane 0))
+  read_often bus counted =
       let went = begins.begins.went in
       let all = went_then begins.begins.cycles begins.begins.cycles counted.cycles counted.cycles (begins.begins.cycles + counted.cycles) (begins.begins.cycles + counted.cycles) old.bus x bus (omega arith) (omega arith) went counted.went in
       let enough = all.enough in
       let least_is = counted.enough in
-      inr (by_least (limit_of f.query.times Word) (limit_of f.query.times Buffer) (begins.begins.cycles + counted.cycles) old.bus.cycles bus.cycles (omega (arith, least_is, is)) enough)
+      inr (more_least (least_limit f) (begins.begins.cycles + counted.cycles) old.bus.cycles bus.cycles (omega (arith, least_is)) enough)
 
   call_stuck : (k : ℕ) (bus : BusState) → ProgramsRange w at from f (GivenUp (Stuck k)) x bus → IsCallOf caller op old (halting (with_bus mid bus) (StuckLane k)) (Halted (StuckLane k)) []
   call_stuck k bus programs =
       let counted = programs.takes.1 in
       stuck_call true (change_most old op) (least_limit f) most k caller op old mid (with_bus mid bus) (halting (with_bus mid bus) (StuckLane k)) [] begins.begins refl refl refl refl counted
-      (call_fits old at most from (omega arith)) (read_often (least_limit f) bus counted refl) refl
+      (call_fits old at most from (omega arith)) programs.takes.0 (read_often bus counted) refl
       (λ a was stands ready.
       let its = ready_of a was stands ready in
       let leaves = programs.becomes (can_program_all mid a at from its) in

@@ -1,6 +1,5 @@
 -- A range that is programmed piece by piece: how it begins, and how it ends.
-use Rattle.std.proofs.Common.{◌≡◌, ◌≢◌, ◌<◌, ◌≤◌, ◌+◌, ◌-◌, ◌*◌, ◌/◌, inl, inr, ℕ, List, [], length, sym, ap, subst, ◌∙◌, arith, bit_and, true, false, if◌then◌else◌}
-use Rattle.std.specs.Prelude.{◌&&◌}
+use Rattle.std.proofs.Common.{◌≡◌, ◌≢◌, ◌<◌, ◌≤◌, ◌+◌, ◌-◌, ◌*◌, ◌/◌, inl, inr, ℕ, List, length, sym, ap, subst, ◌∙◌, arith, bit_and, true, false}
 use Rattle.std.proofs.lemmas.Bool.{cases_lt}
 use Rattle.std.proofs.lemmas.Nat.{div-add-mod'}
 use Rattle.std.proofs.Math.Nat.{mul-le-mul_right}
@@ -13,10 +12,10 @@ use Rattle.nor_bus.proofs.Counting.{counted_lost, counted_then}
 use Rattle.nor_bus.proofs.Driving.{some_lane, went_none}
 use Rattle.nor_poll.specs.declared.lanes.Halt.{Halt}
 use Rattle.nor_poll.specs.declared.lanes.Halt.TheVariants.{Off, Stuck}
-use Rattle.nor_bank.specs.Pieces.{CanProgramAll, CostsWords, TakesPiece, Wait, changes_word, least_limit, limit_in, piece_before, word_cost_in}
+use Rattle.nor_bank.specs.Pieces.{CanProgramAll, CostsWords, TakesPiece, Wait, changes_word, piece_before, word_cost_in}
 use Rattle.nor_bank.specs.Programs.{BreaksOff, ByteEnds, ForBroken, GivesUp, LeavesBy, MeetsPiece, PieceBecomes, ProgramsPiece, ProgramsTo, RangeBecomes, Takes, begin_of, changes_of, datum_at, end_of, goes_on, is_of, words_passing}
 use Rattle.nor_bank.specs.Ranges.{MeetsWord, words_met}
-use Rattle.nor_bank.specs.Runs.{IsRun, WordChanges, joins_in}
+use Rattle.nor_bank.specs.Runs.{IsRun, WordChanges, joins_in, least_limit, limit_in}
 use Rattle.nor_bank.specs.declared.programming.Piece.{Piece}
 use Rattle.nor_bank.specs.declared.programming.Outcome.{Outcome}
 use Rattle.nor_bank.specs.declared.programming.Outcome.TheVariants.{Skipped, Stored, BrokeOff, GivenUp}
@@ -73,6 +72,7 @@ module _ (w : ℕ) (f : Found) (at : ℕ) (new : List ℕ) (first last : ℕ) wh
       record {
         order = omega arith;
         few = omega arith;
+        buffered = λ several. absurd (omega (arith, several));
         counted = record { cycles = 0; enough = omega (arith, none); few = omega arith; went = went_none bus };
         stand = λ can. record {
           to = subst (λ (m : ℕ). ProgramsTo g at new (m * w) bus bus) (sym start)
@@ -151,7 +151,7 @@ module _ (w : ℕ) (f : Found) (at : ℕ) (new : List ℕ) (first last : ℕ) wh
       let end : u - n + n ≡ u - 1 + 1 = omega (arith, any, low) in
       let row : (u - n + n) * w ≡ (u - 1 + 1) * w = ap (λ (m : ℕ). m * w) end in
       let split : (u - 1 + 1) * w ≡ (u - 1) * w + w = omega arith in
-      subst (λ (piece : Piece). MeetsPiece w piece at len) (sym this.0) (record { before_end = omega (arith, start, some); behind_start = omega (arith, stop, row, split) })
+      subst (λ (piece : Piece). MeetsPiece w piece at len) (sym this.0) (record { some = any; before_end = omega (arith, start, some); behind_start = omega (arith, stop, row, split) })
 
   pub range_there : (u n : ℕ) (o : Outcome) → 0 < w → InRange w at len first last u → first + n ≤ u → ForBroken o (λ piece. (piece ≡ piece_before n u) × (0 < n)) → ForBroken o (λ piece. MeetsPiece w piece at len)
   range_there u n o wide in_range order this = there_by u n o wide in_range.begins in_range.ends in_range.some order in_range.to this

@@ -1,5 +1,5 @@
 -- One more word of a range: the words that can't wait for it are programmed, and it waits where it changes.
-use Rattle.std.proofs.Common.{◌≡◌, ◌≢◌, ◌<◌, ◌≤◌, ◌+◌, ◌-◌, ◌*◌, ℕ, suc, List, [], length, map, set, get_or, refl, sym, ap, subst, ◌∙◌, arith, Bool, true, false, Option, Some, None, is_some, if◌then◌else◌}
+use Rattle.std.proofs.Common.{◌≡◌, ◌<◌, ◌≤◌, ◌+◌, ◌-◌, ◌*◌, ℕ, suc, List, [], length, map, set, get_or, refl, sym, ap, subst, ◌∙◌, arith, Bool, true, false, Option, Some, None, is_some, if◌then◌else◌}
 use Rattle.std.specs.Prelude.{nat_lt, ◌&&◌, IfSome}
 use Rattle.std.specs.Option.{option_map}
 use Rattle.std.proofs.lemmas.List.{length-set}
@@ -17,6 +17,7 @@ use Rattle.nor_bank.specs.Runs.{joins_in}
 use Rattle.nor_bank.specs.declared.programming.Outcome.{Outcome}
 use Rattle.nor_bank.specs.declared.programming.Outcome.TheVariants.{Skipped}
 use Rattle.nor_bank.proofs.PiecesLoop.{SoFar, due_counted, so_flushed, so_read}
+use Rattle.nor_bank.proofs.PiecesProgrammed.{joined}
 use Rattle.nor_bank.proofs.PiecesWaiting.{can_all, kept_others, kept_there, passing_least, piece_still, still_changes, tells_on, wait_more, wait_none}
 use Rattle.nor_bank.proofs.WordByWord.{programs_on}
 
@@ -58,6 +59,7 @@ module _ (w : ℕ) (f : Found) (at : ℕ) (new : List ℕ) (first u : ℕ) (old 
       record {
         order = omega (arith, order);
         few = omega (arith, room);
+        buffered = λ several. (joined w f (u - n) u joins).some;
         counted = counted_as (u - first + 1) (u + 1 - first) (u - first + 1 + (u - n - first) * cost) (u + 1 - first + (u + 1 - (n + 1) - first) * cost) old mid (sym read_next) (omega (arith, cycles, read_next)) counted;
         stand = λ can.
             let s = read.stand can in
@@ -102,6 +104,7 @@ module _ (w : ℕ) (f : Found) (at : ℕ) (new : List ℕ) (first u : ℕ) (old 
         record {
           order = omega (arith, from);
           few = omega arith;
+          buffered = λ several. absurd (omega (arith, several));
           counted = counted_as (u - first + 1) (u + 1 - first) (u - first + 1 + (u - first) * cost) (u + 1 - first + (u + 1 - 0 - first) * cost) old after (sym read_next) (omega (arith, cycles, read_next)) counted;
           stand = λ can.
               let flushed = so_flushed w f at new first (u - first + 1) u n false all o old mid after from goes refl takes becomes read can in
@@ -144,6 +147,7 @@ module _ (w : ℕ) (f : Found) (at : ℕ) (new : List ℕ) (first u : ℕ) (old 
         record {
           order = omega (arith, from);
           few = omega arith;
+          buffered = λ several. absurd (omega (arith, several));
           counted = counted_as (u - first + 1) (u + 1 - first) (u - first + 1 + (u - first) * cost) (u + 1 - first + (u + 1 - 1 - first) * cost) old after (sym read_next) (omega (arith, cycles, read_next)) counted;
           stand = λ can.
               let flushed = so_flushed w f at new first (u - first + 1) u n true all o old mid after from goes apart takes becomes read can in

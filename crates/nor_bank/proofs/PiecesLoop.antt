@@ -1,5 +1,5 @@
 -- A range that is programmed piece by piece: what stands before each of its words.
-use Rattle.std.proofs.Common.{◌≡◌, ◌≢◌, ◌<◌, ◌≤◌, ◌+◌, ◌-◌, ◌*◌, ◌/◌, ◌⊎◌, inl, inr, ℕ, List, [], length, map, sym, ap, subst, ◌∙◌, arith, Bool, true, false, Option, if◌then◌else◌}
+use Rattle.std.proofs.Common.{◌≡◌, ◌<◌, ◌≤◌, ◌+◌, ◌-◌, ◌*◌, inl, inr, ℕ, List, length, map, sym, ap, subst, ◌∙◌, arith, Bool, true, false, Option}
 use Rattle.std.specs.Prelude.{nat_lt, ◌&&◌}
 use Rattle.std.proofs.lemmas.Bool.{cases_lt}
 use Rattle.std.proofs.Math.Nat.{mul-le-mul_right}
@@ -12,7 +12,7 @@ use Rattle.nor_bus.proofs.Counting.{counted_exactly, counted_then}
 use Rattle.nor_bus.proofs.Driving.{went_none}
 use Rattle.nor_bank.specs.Pieces.{CanProgramAll, ReadsWord, TakesPiece, Wait, changes_word, piece_before, word_cost_in}
 use Rattle.nor_bank.specs.Programs.{PieceBecomes, ProgramsPiece, ProgramsTo, changes_of, goes_on, words_passing}
-use Rattle.nor_bank.specs.Runs.{WordChanges, joins_in}
+use Rattle.nor_bank.specs.Runs.{WordChanges, joins_in, units_in}
 use Rattle.nor_bank.specs.declared.programming.Outcome.{Outcome}
 use Rattle.nor_bank.specs.declared.programming.Outcome.TheVariants.{Skipped, Stored, BrokeOff, GivenUp}
 use Rattle.nor_bank.proofs.PiecesWaiting.{can_all, joins_alike, passing_more, still_changes, to_same, wait_on}
@@ -33,6 +33,8 @@ pub record Stand (w : ℕ) (f : Found) (at : ℕ) (new : List ℕ) (first read u
 pub record SoFar (w : ℕ) (f : Found) (at : ℕ) (new : List ℕ) (first read u n : ℕ) (all : List (List ℕ)) (old now : BusState) : Type 0 where
   pub order : first + n ≤ u
   pub few : n ≤ 256
+  -- several wait for a buffer alone
+  pub buffered : 1 < n → 0 < units_in f
   pub counted : Counted read (read + (u - n - first) * word_cost_in f) old now
   pub stand : CanProgramAll w f at (length new) old → Stand w f at new first read u n all old now
 
@@ -56,6 +58,7 @@ module _ (w : ℕ) (f : Found) (at : ℕ) (new : List ℕ) (first : ℕ) where
       record {
         order = so.order;
         few = so.few;
+        buffered = so.buffered;
         counted = counted_then read (read + (u - n - first) * cost) 1 1 (read + 1) (read + 1 + (u - n - first) * cost) old now mid (omega arith) (omega arith) so.counted one;
         stand = λ can.
             let s = so.stand can in

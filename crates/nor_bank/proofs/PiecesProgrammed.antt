@@ -1,23 +1,21 @@
 -- A piece is programmed: a word of its own, or several by the buffer.
-use Rattle.std.proofs.Common.{◌≡◌, ◌≢◌, ◌<◌, ◌≤◌, ◌+◌, ◌-◌, ◌*◌, ◌/◌, ℕ, zero, suc, List, [], ◌∷◌, length, map, take, get_or, slice_index, refl, sym, ap, subst, ◌∙◌, arith, bit_and, Bool, true, false, not, ◌==◌, Result, Ok, Err, IfOk, IfErr, OnOk}
+use Rattle.std.proofs.Common.{◌≡◌, ◌≢◌, ◌<◌, ◌≤◌, ◌+◌, ◌-◌, ◌*◌, ◌/◌, ◌^◌, ℕ, zero, suc, List, [], ◌∷◌, length, map, take, get_or, slice_index, refl, sym, ap, subst, ◌∙◌, arith, bit_and, Bool, true, false, not, ◌==◌, if◌then◌else◌, min, Result, Ok, Err, IfOk, IfErr, OnOk}
 use Rattle.std.specs.Prelude.{nat_le, nat_lt, ◌&&◌, ◌%◌}
 use Rattle.std.proofs.lemmas.Bool.{eqb-false}
 use Rattle.std.proofs.lemmas.List.{append-nil, length-map, length-take-le}
 use Rattle.std.proofs.lemmas.Nat.{div-add-mod'}
 use Rattle.std.proofs.Math.Nat.{mul-le-mul_right, mod-lt}
-use Rattle.nor_cell.specs.Bits.{AreBytes, unit_bytes}
+use Rattle.nor_cell.specs.Bits.{AreBytes, has_bit, unit_bytes}
 use Rattle.nor_cell.specs.Chip.{block_at, place}
-use Rattle.nor_cell.specs.Loads.{room}
 use Rattle.nor_cell.specs.declared.device.Set.{Set}
 use Rattle.nor_cell.specs.declared.device.Set.TheVariants.{Intel, Amd}
 use Rattle.nor_cell.proofs.Between.{shown_takes}
-use Rattle.nor_cell.proofs.Logic.{both_pass, is_below, same_number}
+use Rattle.nor_cell.proofs.Logic.{both_pass, is_below, passes_below, same_number}
 use Rattle.nor_probe.specs.declared.probing.Found.{Found}
 use Rattle.nor_word.specs.Word.{lane_of}
 use Rattle.nor_bus.specs.Bus.{BusState, bank_byte, lane, lanes_of, wide}
 use Rattle.nor_bus.specs.Cycles.{KeepsLanes}
 use Rattle.nor_bus.specs.Driven.{Counted, EachPart, Lost, Reaches, Went}
-use Rattle.nor_bus.proofs.Driving.{lost_then, went_none}
 use Rattle.nor_poll.specs.Buffer.{AreLoadsBroken, EachLoad, LoadHalts, ProgramsLoad, ReachesAll, TakesLoad, load_most, load_of, load_stuck, last_of}
 use Rattle.nor_poll.specs.Losing.{Loses, Tears}
 use Rattle.nor_poll.specs.Word.{AreBroken, ProgramDone, ProgramsWord, TakesProgram, WordHalts, word_most, word_stuck}
@@ -25,10 +23,10 @@ use Rattle.nor_poll.specs.Words.{breaks}
 use Rattle.nor_poll.specs.declared.lanes.Halt.{Halt}
 use Rattle.nor_poll.specs.declared.lanes.Halt.TheVariants.{Off, Stuck}
 use Rattle.nor_poll.specs.declared.lanes.LaneSet.{LaneSet}
-use Rattle.nor_bank.specs.Pieces.{CanProgramAll, EndsPiece, HaltsPiece, Wait, least_limit, limit_in, load_limit_in, most_limit, word_cost_in}
+use Rattle.nor_bank.specs.Pieces.{CanProgramAll, EndsPiece, HaltsPiece, Wait, word_cost_in}
 use Rattle.nor_bank.specs.Programs.{Changes, GivesUp, LeavesBy, ProgramsPiece, changes_at, changes_of}
 use Rattle.nor_bank.specs.Ranges.{MeetsWord}
-use Rattle.nor_bank.specs.Runs.{joins_in, units_in}
+use Rattle.nor_bank.specs.Runs.{joins_in, least_limit, limit_in, load_limit_in, most_limit, units_in}
 use Rattle.nor_bank.specs.State.{blocks_of}
 use Rattle.nor_bank.proofs.Breaking.{changes_in}
 use Rattle.nor_bank.proofs.OneWord.{word_there}
@@ -36,6 +34,8 @@ use Rattle.nor_bank.proofs.PiecesDone.{piece_done, piece_lost, piece_torn}
 use Rattle.nor_bank.proofs.PiecesLoad.{AllBytes}
 use Rattle.nor_bank.proofs.Searching.{lowest_passes}
 use Rattle.nor_bank.proofs.Storing.{takes}
+use Rattle.nor_bank.proofs.WeakSpans.{few_bits}
+use Rattle.nor_bank.proofs.Using.{lost_within}
 
 -- ---- the words of a piece
 
@@ -187,11 +187,19 @@ module _ (w : ℕ) (f : Found) (at u n : ℕ) (new : List ℕ) (words : List (Li
 -- ---- cycles
 
 -- limits
-pub least_word : (f : Found) → (least_limit f ≤ limit_in f) × (limit_in f ≤ most_limit f)
-least_word f = (grind arith, grind arith)
+least_by : (has_buffer : Bool) (word load : ℕ) → (if has_buffer then min word load else word) ≤ word
+least_by true word load = grind arith
+least_by false word load = omega arith
 
-pub least_load : (f : Found) → (least_limit f ≤ load_limit_in f) × (load_limit_in f ≤ most_limit f)
-least_load f = (grind arith, grind arith)
+pub least_word : (f : Found) → (least_limit f ≤ limit_in f) × (limit_in f ≤ most_limit f)
+least_word f = (least_by (nat_lt 0 (units_in f)) (limit_in f) (load_limit_in f), grind arith)
+
+-- with a buffer
+pub least_load : (f : Found) → 0 < units_in f → (least_limit f ≤ load_limit_in f) × (load_limit_in f ≤ most_limit f)
+least_load f buffered = (
+  subst (λ (b : Bool). (if b then min (limit_in f) (load_limit_in f) else limit_in f) ≤ load_limit_in f) (sym (passes_below 0 (units_in f) buffered)) (grind arith),
+  grind arith,
+)
 
 -- a word alone, by a limit that is at most another
 record WordWithin (kind : Set) (least limit most : ℕ) : Type 0 where
@@ -219,10 +227,6 @@ load_within Amd n least limit most some low high =
     let twice = mul-le-mul_right (2 * most) (let h : 2 ≤ n = omega (arith, some) in h) in
     let all : n * (2 * most + 6) ≡ n * (2 * most) + n * 6 = omega arith in
     record { done = omega (arith, twice, all, some, high); least_stuck = omega (arith, low); stuck = omega (arith, twice, all, some, high) }
-
--- a loss within fewer cycles
-pub lost_within : (m n : ℕ) (a b : BusState) → m ≤ n → Lost m a b → Lost n a b
-lost_within m n a b le lost = lost_then 0 m n a a b (omega (arith, le)) (went_none a) lost
 
 -- ---- a word of its own
 
@@ -327,37 +331,45 @@ module _ (w : ℕ) (f : Found) (u n : ℕ) (words all : List (List ℕ)) (old no
         piece_changes w f at u n new all old can wait (omega (arith, several)),
       )
 
-  within : LoadWithin f.query.set n (least_limit f) (load_limit_in f) (most_limit f)
-  within = load_within f.query.set n (least_limit f) (load_limit_in f) (most_limit f) several (least_load f).0 (least_load f).1
-
-  load_gives_up : (halt : Halt) → LoadHalts f.query.set w f.geometry u words (load_limit_in f) old now halt → GivesUp f.geometry.lanes (least_limit f) (n * word_cost_in f) halt old now
-  load_gives_up Off halts =
-      lost_within (load_most f.query.set n (load_limit_in f)) (n * word_cost_in f) old now within.done
-      (subst (λ (m : ℕ). Lost (load_most f.query.set m (load_limit_in f)) old now) first.count halts.0)
-  load_gives_up (Stuck k) halts = (
-    halts.0,
-    record {
-      cycles = load_stuck f.query.set n (load_limit_in f);
-      enough = within.least_stuck;
-      few = within.stuck;
-      went = subst (λ (m : ℕ). Went (load_stuck f.query.set m (load_limit_in f)) (load_stuck f.query.set m (load_limit_in f)) old now) first.count halts.1;
-    },
-  )
-
   pub several_end : (r : Result LaneSet Halt) → OnOk r (Counted (n + 6) (load_most f.query.set n (load_limit_in f)) old now)
       → OnOk r (ReachesAll w f.geometry u n old → EachLoad words (ProgramsLoad f.query.set u n) old now) → IfOk r (AreLoadsBroken f.query.set w f.geometry u words old)
       → IfOk r (λ lanes. EndsPiece w f u n all lanes.bits old now)
   several_end (Ok lanes) counted done are = load_ends lanes counted.went.kept done are
   several_end (Err halt) counted done are = tt
 
-  pub several_counted : (r : Result LaneSet Halt) → OnOk r (Counted (n + 6) (load_most f.query.set n (load_limit_in f)) old now) → OnOk r (Counted n (n * word_cost_in f) old now)
-  several_counted (Ok lanes) counted =
-      let enough = counted.enough in
-      let few = counted.few in
-      let most = within.done in
-      record { cycles = counted.cycles; enough = omega (arith, enough); few = omega (arith, few, most); went = counted.went }
-  several_counted (Err halt) counted = tt
+  module _ (buffered : 0 < units_in f) where
+    within : LoadWithin f.query.set n (least_limit f) (load_limit_in f) (most_limit f)
+    within = load_within f.query.set n (least_limit f) (load_limit_in f) (most_limit f) several (least_load f buffered).0 (least_load f buffered).1
 
-  pub several_halt : (r : Result LaneSet Halt) → IfErr r (LoadHalts f.query.set w f.geometry u words (load_limit_in f) old now) → IfErr r (λ halt. HaltsPiece w f u n all halt old now)
-  several_halt (Ok lanes) halts = tt
-  several_halt (Err halt) halts = record { cycles = load_gives_up halt halts; leaves = load_leaves halt halts }
+    load_gives_up : (halt : Halt) → LoadHalts f.query.set w f.geometry u words (load_limit_in f) old now halt → GivesUp f.geometry.lanes (least_limit f) (n * word_cost_in f) halt old now
+    load_gives_up Off halts =
+        lost_within (load_most f.query.set n (load_limit_in f)) (n * word_cost_in f) old now within.done
+        (subst (λ (m : ℕ). Lost (load_most f.query.set m (load_limit_in f)) old now) first.count halts.0)
+    load_gives_up (Stuck k) halts = (
+      halts.0,
+      record {
+        cycles = load_stuck f.query.set n (load_limit_in f);
+        enough = within.least_stuck;
+        few = within.stuck;
+        went = subst (λ (m : ℕ). Went (load_stuck f.query.set m (load_limit_in f)) (load_stuck f.query.set m (load_limit_in f)) old now) first.count halts.1;
+      },
+    )
+
+    pub several_counted : (r : Result LaneSet Halt) → OnOk r (Counted (n + 6) (load_most f.query.set n (load_limit_in f)) old now) → OnOk r (Counted n (n * word_cost_in f) old now)
+    several_counted (Ok lanes) counted =
+        let enough = counted.enough in
+        let few = counted.few in
+        let most = within.done in
+        record { cycles = counted.cycles; enough = omega (arith, enough); few = omega (arith, few, most); went = counted.went }
+    several_counted (Err halt) counted = tt
+
+    pub several_halt : (r : Result LaneSet Halt) → IfErr r (LoadHalts f.query.set w f.geometry u words (load_limit_in f) old now) → IfErr r (λ halt. HaltsPiece w f u n all halt old now)
+    several_halt (Ok lanes) halts = tt
+    several_halt (Err halt) halts = record { cycles = load_gives_up halt halts; leaves = load_leaves halt halts }
+
+-- ---- the lanes that broke off are lanes of the bank
+
+pub few_lanes : (r : Result LaneSet Halt) (count : ℕ) (P : LaneSet → Type 0) → ((lanes : LaneSet) → P lanes → (c : ℕ) → count ≤ c → has_bit lanes.bits c ≡ false)
+    → IfOk r P → IfOk r (λ lanes. lanes.bits < 2 ^ count)
+few_lanes (Ok lanes) count P past holds = few_bits count lanes.bits (past lanes holds)
+few_lanes (Err halt) count P past holds = tt

@@ -1,13 +1,14 @@
 -- A bus word of the range is read, and told whether it changes.
-use Rattle.std.proofs.Common.{◌≡◌, ◌≢◌, ◌<◌, ◌≤◌, ◌+◌, ◌-◌, ◌*◌, ℕ, List, length, slice_index, refl, sym, ap, ◌∙◌, arith, bit_and, Some, None, is_some}
+use Rattle.std.proofs.Common.{◌≡◌, ◌≢◌, ◌<◌, ◌+◌, ◌-◌, ◌*◌, ℕ, List, length, slice_index, refl, sym, ap, ◌∙◌, arith, bit_and, Some, None, is_some}
 use Rattle.nor_cell.specs.Bits.{AreBytes}
 use Rattle.nor_probe.specs.declared.probing.Found.{Found}
 use Rattle.nor_array.specs.Array.{lowest}
 use Rattle.nor_bus.specs.Bus.{BusState, bank_byte, units_of}
 use Rattle.nor_bus.specs.Driven.{AllLanes, AnswersPart, EachPart, Went, reached}
-use Rattle.nor_bank.specs.Pieces.{CanProgramAll, ReadsWord, limit_in}
+use Rattle.nor_bank.specs.Pieces.{CanProgramAll, ReadsWord}
 use Rattle.nor_bank.specs.Programs.{ProgramsPiece, changes_of, datum_at}
 use Rattle.nor_bank.specs.Ranges.{MeetsWord, IsShowing}
+use Rattle.nor_bank.specs.Runs.{limit_in}
 use Rattle.nor_cell.specs.declared.geometry.Geometry.{Geometry}
 use Rattle.nor_cell.proofs.Logic.{not_passed}
 use Rattle.nor_bus.specs.Driven.{IsOwn}

@@ -7,10 +7,10 @@ use Rattle.nor_cell.specs.declared.geometry.Geometry.{Geometry}
 use Rattle.nor_cell.proofs.Logic.{passes_below, quotient_rises}
 use Rattle.nor_probe.specs.declared.probing.Found.{Found}
 use Rattle.nor_bus.specs.Bus.{BusState}
-use Rattle.nor_bank.specs.Pieces.{CanProgramAll, CostsWords, ReadsWord, TakesPiece, Wait, due_in, least_limit, piece_before, word_cost_in}
+use Rattle.nor_bank.specs.Pieces.{CanProgramAll, CostsWords, ReadsWord, TakesPiece, Wait, due_in, piece_before, word_cost_in}
 use Rattle.nor_bank.specs.Programs.{ForBroken, MeetsPiece, PieceBecomes, RangeBecomes, Takes, changes_of, goes_on}
 use Rattle.nor_bank.specs.Ranges.{words_met}
-use Rattle.nor_bank.specs.Runs.{IsRun, WordChanges, joins_in}
+use Rattle.nor_bank.specs.Runs.{IsRun, WordChanges, joins_in, least_limit}
 use Rattle.nor_bank.specs.declared.programming.Outcome.{Outcome}
 use Rattle.nor_bank.specs.declared.programming.Outcome.TheVariants.{Skipped, Stored, BrokeOff, GivenUp}
 use Rattle.nor_bank.proofs.PiecesEnds.{InRange, more_fits, most_fits, range_costs, range_done, range_run, range_stops, range_takes, range_there}
@@ -45,9 +45,6 @@ due_all w f n u due changes is some = due_so (changes && nat_lt 0 n && joins_in 
 not_skipped : (o : Outcome) → goes_on o ≡ false → o ≡ Skipped → ⊥
 not_skipped o stops is = let both : true ≡ false = sym (ap goes_on is) ∙ stops in cc
 
-apart_so : (x y : Bool) → x ≡ true → (x && y) ≡ false → y ≡ false
-apart_so x y is both = sym (ap (λ (b : Bool). b && y) is) ∙ both
-
 module _ {X : Type 0} (bytes : X → List ℕ) (w : ℕ) (f : Found) (at : ℕ) (new : List ℕ) (first last u n : ℕ) (xs : List X) (word : Option X) (o : Outcome) (old now mid after : BusState)
     (in_range : InRange w at (length new) first last u) (less : u < last + 1) (between : Between bytes w f at new first u n xs old now) (stops : goes_on o ≡ false) where
   abbrev g : Geometry
@@ -66,7 +63,7 @@ module _ {X : Type 0} (bytes : X → List ℕ) (w : ℕ) (f : Found) (at : ℕ) 
   -- the word doesn't go with them
   apart : (word : Option X) → (is_some word && nat_lt 0 n && joins_in w f (u - n) u) ≡ false → (CanProgramAll w f at len now → ReadsWord w g at new u (option_map bytes word) now mid)
       → CanProgramAll w f at len old → 0 < n → WordChanges w (changes_of g old at new) at len u → joins_in w f (u - n) u ≡ false
-  apart (Some it) test reads can some changed = apart_so (nat_lt 0 n) (joins_in w f (u - n) u) (passes_below 0 n some) test
+  apart (Some it) test reads can some changed = sym (ap (λ (b : Bool). b && joins_in w f (u - n) u) (passes_below 0 n some)) ∙ test
   apart None test reads can some changed =
       let s = between.so.stand can in
       let can_now = can_all w f at new ((u - n) * w) (u - first) (u - first + (u - n - first) * cost) old now between.so.counted can s.to in

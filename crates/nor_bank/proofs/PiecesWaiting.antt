@@ -1,5 +1,5 @@
 -- Words that wait while others are read, and what stays true of them.
-use Rattle.std.proofs.Common.{◌≡◌, ◌≢◌, ◌<◌, ◌≤◌, ◌+◌, ◌-◌, ◌*◌, ◌/◌, inl, inr, ℕ, zero, suc, List, [], ◌∷◌, length, map, set, get_or, slice_index, Option, Some, None, refl, sym, ap, subst, ◌∙◌, arith, bit_and, Bool, true, false, not, ◌==◌, if◌then◌else◌, get_or-set_same, get_or-set_other}
+use Rattle.std.proofs.Common.{◌≡◌, ◌≢◌, ◌<◌, ◌≤◌, ◌+◌, ◌*◌, ◌/◌, inl, inr, ℕ, zero, suc, List, [], length, map, set, get_or, slice_index, Option, Some, None, refl, sym, ap, subst, ◌∙◌, arith, bit_and, Bool, true, false, not, ◌==◌, if◌then◌else◌, get_or-set_same, get_or-set_other}
 use Rattle.std.specs.Prelude.{nat_lt, ◌&&◌}
 use Rattle.std.proofs.lemmas.Bool.{cases_lt}
 use Rattle.std.proofs.lemmas.List.{get_or-map, length-set}
@@ -14,10 +14,10 @@ use Rattle.nor_probe.specs.declared.probing.Found.{Found}
 use Rattle.nor_bus.specs.Bus.{BusState, bank_byte, chip_at, lane, lanes_of}
 use Rattle.nor_bus.specs.Driven.{Counted}
 use Rattle.nor_bus.proofs.Driving.{units_kept}
-use Rattle.nor_bank.specs.Pieces.{CanProgramAll, IsAnded, TakesLoads, TellsWord, Wait, changes_word, limit_in, load_limit_in}
+use Rattle.nor_bank.specs.Pieces.{CanProgramAll, IsAnded, TakesLoads, TellsWord, Wait, changes_word}
 use Rattle.nor_bank.specs.Programs.{Lasts, ProgramsPiece, ProgramsTo, changes_of, datum_at, word_passes, words_passing}
 use Rattle.nor_bank.specs.Ranges.{MeetsWord}
-use Rattle.nor_bank.specs.Runs.{joins_in, units_in}
+use Rattle.nor_bank.specs.Runs.{joins_in, limit_in, load_limit_in, units_in}
 use Rattle.nor_bank.specs.State.{blocks_of}
 use Rattle.nor_bank.proofs.Anding.{ends_same}
 use Rattle.nor_bank.proofs.Breaking.{changes_datum}

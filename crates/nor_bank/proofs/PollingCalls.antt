@@ -30,12 +30,12 @@ use Rattle.nor_bank.specs.Stands.{Stands, EraseIs, under_of}
 use Rattle.nor_bank.specs.State.{BankState, byte_of, bytes_of, erase_limit}
 use Rattle.nor_bank.specs.UnderErase.{IsUnderErase}
 use Rattle.nor_bank.specs.Way.{Looks, LosesLook, looked, halting}
-use Rattle.nor_bank.specs.Whole.{IsCallOf, leaves_quiet, may_answer}
+use Rattle.nor_bank.specs.Whole.{IsCallOf, IsErasedPart, MayAnswer, leaves_quiet}
 use Rattle.nor_bank.specs.Work.{with_bus, kept_after}
 use Rattle.nor_bank.specs.declared.kept.Erasing.{Erasing}
 use Rattle.nor_bank.proofs.BankBytes.{length-bank_bytes, bank_bytes-at}
 use Rattle.nor_bank.proofs.ClosingStands.{HasEndedIn, span_is, none_breaks, whole_at, some_breaks, named, others, stands_closed}
-use Rattle.nor_bank.proofs.Ending.{worked_call, HaltsFirst, first_lost, first_stuck}
+use Rattle.nor_bank.proofs.Ending.{worked_call, HaltsFirst, first_lost, first_stuck, falls_in}
 use Rattle.nor_bank.proofs.Holding.{bytes_small}
 use Rattle.nor_bank.proofs.Known.{known_own}
 use Rattle.nor_bank.proofs.RefusalOrder.{poll_refusal}
@@ -105,35 +105,35 @@ lost_poll e old new reply own loses =
 
 -- a reply of a poll that ends the erase
 record IsEnd (reply : Reply) : Type 0 where
-  answers : may_answer Poll reply ≡ true
   erases : (n : ℕ) → erases_after reply n ≡ n
   suspends : (s t : ChipState) → t.suspends ≡ s.suspends → CountsSuspend reply false s t
   halted : (h : Option HaltCause) → kept_after h reply ≡ h
   erase : (caller : ℕ) (x : Option Erasing) → KeepsErase caller Poll reply x None
   waits : reply ≡ NotYet → ⊥
+  opens : reply ≡ Opened → ⊥
   ends : (n : ℕ) (old : BankState) → Ends n old.erase old.bus → EndsErase Poll reply n old
   halts : (cause : HaltCause) → reply ≡ Halted cause → ⊥
 
 erased_end : IsEnd Erased
 erased_end = record {
-  answers = refl;
   erases = λ n. refl;
   suspends = λ s t same. same;
   halted = λ h. refl;
   erase = λ caller x. refl;
   waits = λ is. cc;
+  opens = λ is. cc;
   ends = λ n old ends. ends;
   halts = λ cause is. cc;
 }
 
 failed_end : (from to lanes : ℕ) → IsEnd (Failed from to lanes)
 failed_end from to lanes = record {
-  answers = refl;
   erases = λ n. refl;
   suspends = λ s t same. same;
   halted = λ h. refl;
   erase = λ caller x. refl;
   waits = λ is. cc;
+  opens = λ is. cc;
   ends = λ n old ends. ends;
   halts = λ cause is. cc;
 }
@@ -160,16 +160,16 @@ module _ (e : Erasing) (old : BankState) (bus : BusState) (now : Lanes) (own : I
               record { runs = none c (subst (λ (n : ℕ). c < n) (lanes_are a stands) mine); held = over.awake c mine };
         }
 
-    closed_call : (reply : Reply) → IsEnd reply
+    closed_call : (reply : Reply) → IsEnd reply → MayAnswer Poll old reply
         → ((a : ArrayState) → Stands old a → AsksChips reply Poll a (entry_bytes reply Poll [] old (record old { bus = bus; erase = None })))
         → ((a : ArrayState) → Stands old a → ReplyAgrees reply (facts_of old) a Poll (entry_bytes reply Poll [] old (record old { bus = bus; erase = None })))
         → ((a : ArrayState) → Stands old a → Stands (record old { bus = bus; erase = None }) (after a (entry_of old (record old { bus = bus; erase = None }) e.caller Poll reply [])))
         → IsCallOf e.caller Poll old (record old { bus = bus; erase = None }) reply []
-    closed_call reply end asks agrees stands_now =
+    closed_call reply end answers asks agrees stands_now =
         worked_call e.caller Poll old (record old { bus = bus; erase = None }) reply [] (record {
           works = works_poll e old own;
           running = own.running;
-          answers = end.answers;
+          answers = answers;
           makes = λ a stands.
               let over = looks.stands a stands in
               record {
@@ -195,7 +195,8 @@ module _ (e : Erasing) (old : BankState) (bus : BusState) (now : Lanes) (own : I
             cycles = looks.cycles;
             few = few;
             asked = inl looks.went;
-            left = λ a stands opened. absurd (cc);
+            left = λ a stands c below.
+                falls_in looks.cycles Poll reply (lane old.bus c) (lane bus c) end.opens ((looks.stands a stands).each c below).left;
             ends = λ a stands.
                 let over = looks.stands a stands in
                 end.ends looks.cycles old (subst (λ (x : Option Erasing). Ends looks.cycles x old.bus) (sym own.is) (λ c below awaited.
@@ -208,7 +209,7 @@ module _ (e : Erasing) (old : BankState) (bus : BusState) (now : Lanes) (own : I
 
     erased_call : (bits : ℕ) → AreTorn old.found.geometry.lanes now bits → bits ≡ 0 → IsCallOf e.caller Poll old (record old { bus = bus; erase = None }) Erased []
     erased_call bits torn zero =
-        closed_call Erased erased_end
+        closed_call Erased erased_end tt
         (λ a stands. (none_breaks (looked e now (with_bus old bus)) a (record e { polls = e.polls + 1; lanes = now }) (ended a stands) bits torn zero, refl))
         (λ a stands. tt)
         (λ a stands.
@@ -227,6 +228,7 @@ module _ (e : Erasing) (old : BankState) (bus : BusState) (now : Lanes) (own : I
         → IsCallOf e.caller Poll old (record old { bus = bus; erase = None }) (Failed (erased_span old.found e.target).from (span_end (erased_span old.found e.target)) bits) []
     failed_call bits torn some =
         closed_call (Failed (erased_span old.found e.target).from (span_end (erased_span old.found e.target)) bits) (failed_end _ _ bits)
+        (subst (λ (x : Option Erasing). IsErasedPart x old.found span.from (span_end span)) (sym own.is) (refl, refl), (some, torn.few))
         (λ a stands. (
           some_breaks (b) a e_now (ended a stands) bits torn some,
           record {
@@ -317,7 +319,7 @@ module _ (e : Erasing) (old : BankState) (bus : BusState) (now : Lanes) (own : I
             cycles = looks.cycles;
             few = few;
             asked = inl looks.went;
-            left = λ a stands opened c less. ((looks.stands a stands).each c less).left;
+            left = λ a stands c less. ((looks.stands a stands).each c less).left;
             ends = λ a stands. tt;
           };
           off = λ n is. absurd (let both : NotYet ≡ Halted (Off n) = is in cc);
@@ -340,7 +342,7 @@ module _ (e : Erasing) (old : BankState) (bus : BusState) (now : Lanes) (own : I
         → IsCallOf e.caller Poll old new (Halted (Stuck k)) []
     stuck_poll new halts last =
         first_stuck 0 12 k e.caller Poll old (with_bus old bus) new [] (works_poll e old own) own.running refl refl halts
-        (record { cycles = looks.cycles; enough = omega arith; few = few; went = looks.went }) (omega arith)
+        (record { cycles = looks.cycles; enough = omega arith; few = few; went = looks.went }) (omega arith) low
         (λ x is. let here : x ≡ e = some_same e x (sym own.is ∙ is) in subst (λ (y : Erasing). y.polls + 1 ≡ erase_limit old.found y.target) (sym here) last)
         refl (λ a stands.
         let over = looks.stands a stands in (

@@ -1,14 +1,12 @@
 -- What a read or a program of a bank is answered, and what it leaves as it was.
-use Rattle.std.proofs.Common.{◌≡◌, ◌≢◌, ◌<◌, ◌∙◌, ◌⊎◌, inl, inr, ℕ, List, Bool, true, false, not, ◌&&◌, Option, Some, None, if◌then◌else◌, refl, sym, ap, subst}
+use Rattle.std.proofs.Common.{◌≡◌, ◌<◌, ◌∙◌, ◌⊎◌, inl, inr, ℕ, List, Bool, true, false, ◌&&◌, Option, Some, None, if◌then◌else◌, refl, sym, ap, subst}
 use Rattle.nor_cell.specs.Between.{IsQuiet}
-use Rattle.nor_cell.specs.Chip.{ChipState, Job, Idle, counted}
+use Rattle.nor_cell.specs.Chip.{ChipState, counted}
 use Rattle.nor_bus.specs.Bus.{BusState, lane, lanes_of, chip_at}
 use Rattle.nor_bus.specs.Cycles.{BusFails}
 use Rattle.nor_bus.specs.Driven.{AllLanes, EachLane}
-use Rattle.nor_query.specs.Derived.{suspend_of}
 use Rattle.nor_poll.specs.Suspend.{pauses}
 use Rattle.nor_array.specs.Array.{ArrayState}
-use Rattle.nor_array.specs.After.{after}
 use Rattle.nor_array.specs.Needs.{needs_of}
 use Rattle.nor_array.specs.declared.entry.Entry.{Entry}
 use Rattle.nor_array.specs.declared.entry.Halted.{Halted as HaltCause}
@@ -17,24 +15,24 @@ use Rattle.nor_array.specs.declared.entry.Op.{Op}
 use Rattle.nor_array.specs.declared.entry.Op.TheVariants.{Read, Program, Poll}
 use Rattle.nor_array.specs.declared.entry.Reply.{Reply}
 use Rattle.nor_array.specs.declared.entry.Reply.TheVariants.{Done, Opened, Erased, OutOfRange, TooLong, Busy, Locked, NotYet, Failed, Halted}
-use Rattle.nor_array.specs.declared.state.Power.{Power}
 use Rattle.nor_array.specs.declared.state.Power.TheVariants.{On}
 use Rattle.nor_array.proofs.Unlocked.{is_range, range_locks}
 use Rattle.nor_bank.specs.Calls.{entry_of}
-use Rattle.nor_bank.specs.Counts.{Spends, Asked, KeepsErase, CountsSuspend, erases_after, suspends_after, may_suspend}
+use Rattle.nor_bank.specs.Counts.{Spends, Asked, KeepsErase, CountsSuspend, erases_after, suspends_after}
 use Rattle.nor_bank.specs.Refused.{bank_refusal, outline, Refuses, Works}
 use Rattle.nor_bank.specs.Stands.{Stands, PowerIs, EraseIs, kept_power}
 use Rattle.nor_bank.specs.State.{BankState}
-use Rattle.nor_bank.specs.Whole.{IsCallOf, MakesCall, may_answer}
+use Rattle.nor_bank.specs.Whole.{IsCallOf, MakesCall, MayAnswer}
 use Rattle.nor_bank.specs.Work.{StaysFiled}
 use Rattle.nor_bank.specs.declared.kept.Erasing.{Erasing}
+use Rattle.nor_bank.proofs.PausingLanes.{no_pause}
 use Rattle.nor_bank.proofs.RangeRefusals.{is_refused, refused_other, range_on, range_refused}
 use Rattle.nor_bank.proofs.Using.{UsesBus, uses_went, uses_lost}
 
 false_true : false ≡ true → ⊥
 false_true is = cc
 
-on_runs : (kept : Option HaltCause) → kept_power kept ≡ On → kept ≡ None
+pub on_runs : (kept : Option HaltCause) → kept_power kept ≡ On → kept ≡ None
 on_runs None on = refl
 on_runs (Some (OffHalt n)) on = absurd (cc)
 on_runs (Some kept) on = absurd (cc)
@@ -72,16 +70,18 @@ plain_opens r plain = refl
 abbrev pub IsAnswer : Reply → Type 0
 IsAnswer r = (is_plain r ≡ true) ⊎ (r ≡ NotYet)
 
-may_be_plain : (op : Op) (r : Reply) → is_range op ≡ true → may_answer op r ≡ true → IsAnswer r
-may_be_plain op NotYet range may = inr refl
-may_be_plain op (Halted cause) range may = inl refl
-may_be_plain (Read at len) Done range may = inl refl
-may_be_plain (Program at new) Done range may = inl refl
-may_be_plain (Program at new) (Locked b) range may = inl refl
-may_be_plain (Program at new) (Failed from to lanes) range may = inl refl
-may_be_plain (Read at len) r range may = absurd (false_true may)
-may_be_plain (Program at new) r range may = absurd (false_true may)
-may_be_plain op r range may = absurd (false_true range)
+may_be_plain : (op : Op) (b : BankState) (r : Reply) → is_range op ≡ true → MayAnswer op b r → IsAnswer r
+may_be_plain op b NotYet range may = inr refl
+may_be_plain op b (Halted cause) range may = inl refl
+may_be_plain op b (Locked k) range may = inl refl
+may_be_plain (Read at len) b Opened range may = absurd (false_true may)
+may_be_plain (Program at new) b Opened range may = absurd (false_true may)
+may_be_plain (Read at len) b Done range may = inl refl
+may_be_plain (Program at new) b Done range may = inl refl
+may_be_plain (Program at new) b (Failed from to lanes) range may = inl refl
+may_be_plain (Read at len) b r range may = absurd may
+may_be_plain (Program at new) b r range may = absurd may
+may_be_plain op b r range may = absurd (false_true range)
 
 -- How a call came to its reply: it was refused, it asked nothing of the chips, or it worked.
 pub data Way (caller : ℕ) (op : Op) (old new : BankState) (r : Reply) : Type 0 where
@@ -109,7 +109,7 @@ way_of old new caller op r given range call = by_refusal (bank_refusal old calle
 pub answer : (old new : BankState) (caller : ℕ) (op : Op) (r : Reply) (given : List ℕ) → is_range op ≡ true → IsCallOf caller op old new r given → Way caller op old new r → IsAnswer r
 answer old new caller op r given range call (IsRefused refused same) = inl (refused_plain r refused)
 answer old new caller op r given range call (IsIdle done same run) = inl (ap is_plain done)
-answer old new caller op r given range call (DoesWork works run) = may_be_plain op r range (call.answers works)
+answer old new caller op r given range call (DoesWork works run) = may_be_plain op old r range (call.answers works)
 
 pub done_runs : (old new : BankState) (caller : ℕ) (op : Op) (r : Reply) → Way caller op old new r → r ≡ Done → old.halted ≡ None
 done_runs old new caller op r (IsRefused refused same) done = absurd (refused_other r Done refused refl done)
@@ -119,7 +119,7 @@ done_runs old new caller op r (DoesWork works run) done = run
 -- ---- what stays of a chip
 
 -- its counters
-record SameCounts (s t : ChipState) : Type 0 where
+pub record SameCounts (s t : ChipState) : Type 0 where
   pub erases : t.erases ≡ s.erases
   pub suspends : t.suspends ≡ s.suspends
 
@@ -134,13 +134,13 @@ fails_counts false old new is fails c below =
       suspends = ap (λ (chips : List ChipState). (chip_at chips c).suspends) same;
     }
 
-same_counts : (old new : BankState) → new ≡ old → EachLane SameCounts old.bus new.bus
+pub same_counts : (old new : BankState) → new ≡ old → EachLane SameCounts old.bus new.bus
 same_counts old new same c below = record {
   erases = ap (λ (b : BankState). (lane b.bus c).erases) same;
   suspends = ap (λ (b : BankState). (lane b.bus c).suspends) same;
 }
 
-refused_counts : (old new : BankState) (r : Reply) → Refuses r old new → EachLane SameCounts old.bus new.bus
+pub refused_counts : (old new : BankState) (r : Reply) → Refuses r old new → EachLane SameCounts old.bus new.bus
 refused_counts old new (Halted (OffHalt n)) refuses = fails_counts old.bus.power old.bus new.bus refl refuses.1
 refused_counts old new r refuses = same_counts old new refuses
 
@@ -155,14 +155,6 @@ erases_stay caller op r old new given a none (IsIdle done same run) made = λ c 
 erases_stay caller op r old new given a none (DoesWork works run) made =
     λ c below. (made.counts works c below).erases ∙ opens_none r (lane old.bus c).erases none
 
--- a chip without a job isn't suspended
-never_pauses : (s : ChipState) → s.job ≡ Idle → pauses s ≡ false
-never_pauses s idle = ap (λ (j : Job). pauses (record s { job = j })) idle ∙ by_stuck s.part.stuck
-  where
-    by_stuck : (stuck : Bool) → (not stuck && false) ≡ false
-    by_stuck true = refl
-    by_stuck false = refl
-
 suspends_same : (may : Bool) (s : ChipState) → pauses s ≡ false → suspends_after may s ≡ s.suspends
 suspends_same may s none = ap (λ (p : Bool). if may && p then counted s.suspends else s.suspends) none ∙ by_may may
   where
@@ -170,12 +162,12 @@ suspends_same may s none = ap (λ (p : Bool). if may && p then counted s.suspend
     by_may true = refl
     by_may false = refl
 
-counts_none : (r : Reply) (may : Bool) (s t : ChipState) → pauses s ≡ false → CountsSuspend r may s t → t.suspends ≡ s.suspends
+pub counts_none : (r : Reply) (may : Bool) (s t : ChipState) → pauses s ≡ false → CountsSuspend r may s t → t.suspends ≡ s.suspends
 counts_none (Halted cause) may s t none (inl same) = same
 counts_none (Halted cause) may s t none (inr counts) = counts ∙ suspends_same may s none
 counts_none r may s t none counts = counts ∙ suspends_same may s none
 
-closed_quiet : (b : BankState) (a : ArrayState) → Stands b a → b.halted ≡ None → b.erase ≡ None → AllLanes IsQuiet b.bus
+pub closed_quiet : (b : BankState) (a : ArrayState) → Stands b a → b.halted ≡ None → b.erase ≡ None → AllLanes IsQuiet b.bus
 closed_quiet b a stands run closed =
     let now : PowerIs None b a = subst (λ (k : Option HaltCause). PowerIs k b a) run stands.now in
     subst (λ (e : Option Erasing). EraseIs e b.found b.bus) closed now.erase
@@ -187,7 +179,7 @@ suspends_stay caller op r old new given a stands closed (IsIdle done same run) m
 suspends_stay caller op r old new given a stands closed (DoesWork works run) made =
     λ c below.
     let quiet = closed_quiet old a stands run closed c below in
-    counts_none r _ (lane old.bus c) (lane new.bus c) (never_pauses (lane old.bus c) quiet.shown.job) (made.counts works c below).suspends
+    counts_none r _ (lane old.bus c) (lane new.bus c) (no_pause (lane old.bus c) quiet.shown.job) (made.counts works c below).suspends
 
 pub uses : (op : Op) (r : Reply) (old new : BankState) → Spends op r old new → UsesBus old.bus new.bus
 uses op r old new spends = by_end spends.asked

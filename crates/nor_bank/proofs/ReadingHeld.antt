@@ -5,7 +5,6 @@ use Rattle.nor_cell.specs.Bits.{unit_len}
 use Rattle.nor_cell.specs.Chip.{ChipState, Job, Idle, Held, covered, is_within, holds_at, place}
 use Rattle.nor_cell.specs.Power.{erases_at, programs_at}
 use Rattle.nor_cell.specs.Steps.{Remains}
-use Rattle.nor_cell.specs.Wiring.{is_wiring}
 use Rattle.nor_cell.specs.declared.device.Device.{Device}
 use Rattle.nor_cell.specs.declared.device.Span.{Span}
 use Rattle.nor_cell.proofs.Logic.{some_bytes, none_pass, no_items, same_number}
@@ -13,7 +12,6 @@ use Rattle.nor_region.specs.Map.{scaled_span}
 use Rattle.nor_bus.specs.Bus.{BusState, lane, lanes_of, chip_at}
 use Rattle.nor_bus.specs.Driven.{EachLane, Went, Lost, Darkens}
 use Rattle.nor_bus.proofs.Driving.{went_none, went_then}
-use Rattle.nor_poll.proofs.Telling.{wired}
 use Rattle.nor_poll.specs.UnderErase.{KeepsOutside, part_of, state_at}
 use Rattle.nor_probe.specs.declared.probing.Found.{Found}
 use Rattle.nor_array.specs.Array.{ArrayState, chip_target, range}
@@ -187,7 +185,7 @@ module _ (width caller at len : ℕ) (old mid new : BankState) (into : List ℕ)
 
   done_call : ReadsReady width at mid new into → IsCallOf caller (Read at len) old new Done into
   done_call reads =
-      ended_call false way_most (words_met at (length into) width) caller (Read at len) old mid new Done into begins refl refl refl refl reads.kept reads.went
+      ended_call false way_most (words_met at (length into) width) caller (Read at len) old mid new Done into begins refl refl refl tt reads.kept reads.went
       (subst (λ (n : ℕ). 43 + words_met at n width ≤ 60 + words_in old at len) (sym long) (read_fits old at len width mid.found same_found wide))
       (λ a stands now ready.
       read_ends width caller at len old mid a begins.works stands now still_running same_found ready wide new into (some_bytes_of caller at len old begins.works) long reads)
@@ -278,10 +276,6 @@ idle_went at len needs old new result most is told le reply some done =
     read_nothing at len old new most (idle_len at len needs is both.0) both.1 le
 
 -- ---- over the bus alone
-
--- a bus word has as many bytes as the wiring
-pub wide_word : (width : ℕ) (f : Found) → is_wiring width f.geometry.lanes f.geometry.device ≡ true → word_bytes f ≡ width
-wide_word width f wiring = (wired width f.geometry.lanes f.geometry.device wiring).1
 
 pub reads_by : (width at : ℕ) (b : BankState) (bus : BusState) (before into : List ℕ) → length into ≡ length before
     → ((device : Device) → CanRead width device b.bus at (length before) → ReadsRange device b.bus bus at into)

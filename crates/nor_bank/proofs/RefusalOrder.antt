@@ -5,7 +5,7 @@ use Rattle.std.specs.Option.{option_or, option_map}
 use Rattle.nor_query.specs.Derived.{locks_of, chip_erase_of}
 use Rattle.nor_array.specs.Array.{ArrayState}
 use Rattle.nor_array.specs.Needs.{needs_of}
-use Rattle.nor_array.specs.Refusals.{refusal, first_some, when, kept_halt, while_open, busy_or_occupied, is_outside, is_too_long, is_power_on, has_nothing, owns}
+use Rattle.nor_array.specs.Refusals.{first_some, when, kept_halt, while_open, busy_or_occupied, is_outside, is_too_long, is_power_on, has_nothing, owns}
 use Rattle.nor_array.specs.declared.needs.CallNeeds.{CallNeeds}
 use Rattle.nor_array.specs.declared.needs.Reach.{Reach}
 use Rattle.nor_array.specs.declared.needs.Reach.TheVariants.{Nowhere, Range, Block, Everywhere}

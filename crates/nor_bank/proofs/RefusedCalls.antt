@@ -31,6 +31,7 @@ use Rattle.nor_bank.specs.Way.{HasNeeds}
 use Rattle.nor_bank.specs.Whole.{IsCallOf, LeavesBank}
 use Rattle.nor_bank.specs.Work.{reach_refusal, range_refusal, refusal_of, with_bus, kept_after, Stays}
 use Rattle.nor_bank.specs.declared.kept.Erasing.{Erasing}
+use Rattle.nor_bank.proofs.EndingReplies.{falls_in}
 use Rattle.nor_bank.proofs.Outlines.{refuses_as_array}
 use Rattle.nor_bank.proofs.Refusing.{Refused, refusal_is, refused_by, refused_entry, kept_stuck}
 use Rattle.nor_bank.proofs.Standing.{stays_standing}
@@ -133,7 +134,7 @@ kept_same kept (Locked k) may = absurd may
 kept_same kept NotYet may = absurd may
 kept_same kept (Failed from to lanes) may = absurd may
 
-goes_on_self : (e : Option Erasing) → GoesOn 0 e e
+pub goes_on_self : (e : Option Erasing) → GoesOn 0 e e
 goes_on_self None = refl
 goes_on_self (Some e) = (refl, refl, let same : e.polls ≡ e.polls + 0 = omega arith in same)
 
@@ -267,17 +268,17 @@ some_most (IsLocked k) b other = omega arith
 some_most (Arm after mask) b other = absurd (cc)
 some_most PowerOn b other = absurd (cc)
 
-any_caller : (op : Op) (caller : ℕ) → is_own op ≡ false → HasItsCaller op caller
-any_caller (Read at len) caller other = tt
-any_caller (Program at new) caller other = tt
-any_caller (EraseOpen k) caller other = tt
-any_caller EraseAll caller other = tt
-any_caller Poll caller other = tt
-any_caller (Lock k) caller other = tt
-any_caller (Unlock k) caller other = tt
-any_caller (IsLocked k) caller other = tt
-any_caller (Arm after mask) caller other = absurd (cc)
-any_caller PowerOn caller other = absurd (cc)
+pub own_caller : (op : Op) (caller : ℕ) → is_own op ≡ false → HasItsCaller op caller
+own_caller (Read at len) caller other = tt
+own_caller (Program at new) caller other = tt
+own_caller (EraseOpen k) caller other = tt
+own_caller EraseAll caller other = tt
+own_caller Poll caller other = tt
+own_caller (Lock k) caller other = tt
+own_caller (Unlock k) caller other = tt
+own_caller (IsLocked k) caller other = tt
+own_caller (Arm after mask) caller other = absurd (cc)
+own_caller PowerOn caller other = absurd (cc)
 
 -- a halt is kept where this is refused
 not_first : {T : Type 0} (kept : Option HaltCause) (reply : Reply) (cause : HaltCause) → MayRefuse kept reply → reply ≡ Halted cause → kept ≡ None → T
@@ -315,16 +316,16 @@ module _ (b new : BankState) (caller : ℕ) (op : Op) (reply : Reply) (given : L
         cycles = left.cycles;
         few = omega (arith, few, some);
         asked = left.asked;
-        left = λ a stands still c below.
-            let chip : lane new.bus c ≡ lane b.bus c = ap (λ (ls : List ChipState). chip_at ls c) left.chips in
-            let same = ap erase_left chip in
-            omega (arith, same);
+        left = λ a stands c below.
+            let same = ap (λ (ls : List ChipState). erase_left (chip_at ls c)) left.chips in
+            falls_in left.cycles op reply (lane b.bus c) (lane new.bus c) (λ opened. subst (λ (r : Reply). MayRefuse b.halted r) opened its)
+            (omega (arith, same), omega (arith, same));
         ends = λ a stands. ends_none op reply b.halted left.cycles b its;
       }
 
   entry : (a : ArrayState) → Stands b a → MakesEntry b new (entry_of b new caller op reply given) a
   entry a stands =
-      refused_entry b new a caller op reply given (any_caller op caller other) (refuses_as_array b a caller op stands ∙ is)
+      refused_entry b new a caller op reply given (own_caller op caller other) (refuses_as_array b a caller op stands ∙ is)
       (refused_as reply b new a op given stands its) (left.stands a stands)
 
   pub any_refusal : IsCallOf caller op b new reply given

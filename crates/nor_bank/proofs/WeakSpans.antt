@@ -1,5 +1,5 @@
 -- The weak places of a bank's chips, as the spans of the array that it stands for.
-use Rattle.std.proofs.Common.{◌≡◌, ◌≢◌, ◌<◌, ◌≤◌, ◌+◌, ◌*◌, ◌/◌, ◌%◌, ◌^◌, inl, inr, ℕ, zero, suc, List, [], ◌∷◌, length, map, slice_index, refl, sym, ◌∙◌, ap, subst, arith, Bool, true, false, ◌&&◌, ◌==◌, None}
+use Rattle.std.proofs.Common.{◌≡◌, ◌≢◌, ◌<◌, ◌≤◌, ◌+◌, ◌*◌, ◌/◌, ◌%◌, ◌^◌, inl, inr, ℕ, zero, suc, List, [], ◌∷◌, length, map, slice_index, refl, sym, ◌∙◌, ap, subst, arith, Bool, true, false, ◌&&◌, ◌==◌}
 use Rattle.std.specs.List.{list_any}
 use Rattle.std.proofs.lemmas.Bool.{cases_eq}
 use Rattle.std.proofs.lemmas.Nat.{pow-add, pow_pos, div-add-mod'}
@@ -19,13 +19,12 @@ use Rattle.nor_array.specs.Array.{ArrayState, Constants}
 use Rattle.nor_array.specs.Admits.{would_change, span_changes, program_breaks}
 use Rattle.nor_bank.specs.Programs.{BreakThere, HasWeakUnits, changes_of, unit_passes}
 use Rattle.nor_bank.specs.Stands.{Stands, weak_span, weak_spans}
-use Rattle.nor_bank.specs.State.{BankState, size_of, byte_of}
+use Rattle.nor_bank.specs.State.{BankState, byte_of}
 use Rattle.nor_bank.proofs.Anding.{no_bits, none_broke}
 use Rattle.nor_bank.proofs.Breaking.{unit_passed, changes_in}
 use Rattle.nor_bank.proofs.Changing.{changes_same}
 use Rattle.nor_bank.proofs.Known.{known_own}
 use Rattle.nor_bank.proofs.Searching.{same_answer, is_passed, any_weaker, any_map, first_passes, second_passes, lowest_passes}
-use Rattle.nor_bank.proofs.Standing.{byte_now}
 
 -- ---- the weak spans of all chips
 

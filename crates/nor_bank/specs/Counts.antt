@@ -1,10 +1,10 @@
 -- What the calls of a bank count: cycles, reads left, erases, suspends and polls.
-use Rattle.std.specs.Prelude.{◌≡◌, ◌≢◌, ◌<◌, ◌≤◌, ◌+◌, ◌*◌, ◌⊎◌, ◌&&◌, max, ℕ, length, Bool, true, false, Option, Some, None, if◌then◌else◌}
-use Rattle.nor_cell.specs.Chip.{ChipState, counted}
-use Rattle.nor_cell.specs.Table.{can_suspend, can_program_suspended}
+use Rattle.std.specs.Prelude.{◌≡◌, ◌≢◌, ◌<◌, ◌≤◌, ◌+◌, ◌*◌, ◌⊎◌, ◌&&◌, ℕ, length, Bool, true, false, Option, Some, None, if◌then◌else◌}
+use Rattle.nor_cell.specs.Chip.{ChipState, Part, counted}
+use Rattle.nor_cell.specs.Table.{can_suspend, can_program_suspended, left_at_start}
 use Rattle.nor_cell.specs.declared.device.SuspendKind.{SuspendKind}
-use Rattle.nor_cell.specs.declared.device.Work.TheVariants.{Word, Buffer}
-use Rattle.nor_query.specs.Derived.{suspend_of, limit_of}
+use Rattle.nor_cell.specs.declared.device.Work.TheVariants.{Block, Chip}
+use Rattle.nor_query.specs.Derived.{suspend_of}
 use Rattle.nor_bus.specs.Bus.{BusState, lane, lanes_of, more}
 use Rattle.nor_bus.specs.Driven.{EachLane, Went, Lost}
 use Rattle.nor_array.specs.declared.entry.Op.{Op}
@@ -14,21 +14,19 @@ use Rattle.nor_array.specs.declared.entry.Reply.TheVariants.{Opened, Erased, Not
 use Rattle.nor_array.specs.declared.state.Target.TheVariants.{OneBlock, AllBlocks}
 use Rattle.nor_array.specs.Array.{ArrayState}
 use Rattle.nor_poll.specs.Suspend.{pauses}
-use Rattle.nor_poll.specs.UnderErase.{erase_left, state_at}
+use Rattle.nor_poll.specs.UnderErase.{FallsBy, erase_left, state_at}
 use Rattle.nor_poll.specs.declared.lanes.LaneState.TheVariants.{Running, Suspended}
+use Rattle.nor_bank.specs.Runs.{least_limit, most_limit}
 use Rattle.nor_bank.specs.Stands.{Stands}
 use Rattle.nor_bank.specs.State.{BankState, blocks_of, erase_limit}
-use Rattle.nor_bank.specs.Work.{word_limit, words_in}
+use Rattle.nor_bank.specs.Work.{words_in}
 use Rattle.nor_bank.specs.declared.kept.Erasing.{Erasing}
 
 -- ---- bus cycles
 
-abbrev pub buffer_limit : BankState → ℕ
-buffer_limit b = limit_of b.found.query.times Buffer
-
--- how often a lane may be read working in a program
+-- how often a lane may be read working in a program, at most
 abbrev pub program_limit : BankState → ℕ
-program_limit b = max (word_limit b) (buffer_limit b)
+program_limit b = most_limit b.found
 
 -- how many cycles a call asks for at most, a failed one among them
 abbrev pub call_most : Op → BankState → ℕ
@@ -53,10 +51,20 @@ abbrev pub is_open : Option Erasing → Bool
 is_open None = false
 is_open (Some e) = true
 
--- While the erase stays open each lane's reads left fall by at most the cycles that were asked for.
-abbrev pub LeftFalls : ℕ → BankState → BankState → Type 0
-LeftFalls n old new =
-    is_open new.erase ≡ true → EachLane (λ s t. erase_left s ≤ erase_left t + n) old.bus new.bus
+-- how many reads an erase begins with that the call opens: by the chip's own pace
+abbrev pub start_left : Op → Part → ℕ
+start_left EraseAll part = left_at_start Chip part.pace_erase part.table
+start_left op part = left_at_start Block part.pace_erase part.table
+
+-- A lane has no more reads left than it had, and at most n less.
+abbrev pub LeftFalls : ℕ → ChipState → ChipState → Type 0
+LeftFalls n s t = (erase_left t ≤ erase_left s) × FallsBy n s t
+
+-- What becomes of a lane's reads left in a call that asked for n cycles. A halt gives the erase up.
+abbrev pub LeftIn : ℕ → Op → Reply → ChipState → ChipState → Type 0
+LeftIn n op Opened s t = erase_left t ≡ start_left op s.part
+LeftIn n op (Halted cause) s t = Unit {0}
+LeftIn n op reply s t = LeftFalls n s t
 
 -- A poll that closes it asked for more cycles than any lane had reads left that wasn't known to have ended.
 abbrev pub Ends : ℕ → Option Erasing → BusState → Type 0
@@ -75,7 +83,7 @@ pub record Spends (op : Op) (reply : Reply) (old new : BankState) : Type 0 where
   pub cycles : ℕ
   pub few : cycles ≤ call_most op old
   pub asked : Asked cycles old.bus new.bus
-  pub left : (a : ArrayState) → Stands old a → LeftFalls cycles old new
+  pub left : (a : ArrayState) → Stands old a → EachLane (LeftIn cycles op reply) old.bus new.bus
   pub ends : (a : ArrayState) → Stands old a → EndsErase op reply cycles old
 
 -- ---- erases, and suspends
@@ -166,10 +174,13 @@ IsBelowLimit op b = Unit {0}
 
 -- ---- a call that a stuck lane halts
 
--- how often the lane was read working: at each poll of the erase, in a suspend, or in a program, where more cycles went
+-- so many cycles were made, or more
+abbrev pub MakesMany : ℕ → BankState → BankState → Type 0
+MakesMany n old new = more n old.bus.cycles ≤ new.bus.cycles
+
+-- how often the lane was read working: by each poll of the erase; in a suspend of an open one; or in a program
 abbrev pub ReadsStuck : Op → BankState → BankState → Type 0
 ReadsStuck Poll old new = (e : Erasing) → old.erase ≡ Some e → e.polls + 1 ≡ erase_limit old.found e.target
 ReadsStuck (Program at new) old now =
-    (more 20 old.bus.cycles ≤ now.bus.cycles) ⊎ (more (word_limit old) old.bus.cycles ≤ now.bus.cycles)
-    ⊎ (more (buffer_limit old) old.bus.cycles ≤ now.bus.cycles)
-ReadsStuck op old new = more 20 old.bus.cycles ≤ new.bus.cycles
+    ((is_open old.erase ≡ true) × MakesMany 20 old now) ⊎ MakesMany (least_limit old.found) old now
+ReadsStuck op old new = (is_open old.erase ≡ true) × MakesMany 20 old new

@@ -1,11 +1,12 @@
 -- Reads of locks: what a call that needs its blocks unlocked does behind the way to the chips.
-use Rattle.std.specs.Prelude.{◌≡◌, ◌≤◌, ◌+◌, ◌-◌, ◌*◌, ℕ, zero, suc, length, Bool, true, false, None, if◌then◌else◌}
+use Rattle.std.specs.Prelude.{◌≡◌, ◌<◌, ◌≤◌, ◌+◌, ◌-◌, ◌*◌, ℕ, zero, suc, length, Bool, true, false, None, if◌then◌else◌}
 use Rattle.nor_cell.specs.Between.{IsShown}
 use Rattle.nor_cell.specs.Chip.{block_at}
 use Rattle.nor_query.specs.Derived.{locks_of}
 use Rattle.nor_bus.specs.Driven.{AllLanes, EachLane, Went, Lost}
 use Rattle.nor_probe.specs.declared.probing.Found.{Found}
 use Rattle.nor_array.specs.Array.{ArrayState}
+use Rattle.nor_array.specs.Refusals.{touches}
 use Rattle.nor_array.specs.declared.entry.Halted.TheVariants.{Off}
 use Rattle.nor_array.specs.declared.entry.Op.{Op}
 use Rattle.nor_array.specs.declared.entry.Op.TheVariants.{Lock, Unlock}
@@ -14,6 +15,7 @@ use Rattle.nor_array.specs.declared.entry.Reply.TheVariants.{Halted as HaltedRep
 use Rattle.nor_array.specs.declared.needs.Reach.{Reach}
 use Rattle.nor_array.specs.declared.needs.Reach.TheVariants.{Nowhere, Range, Block, Everywhere}
 use Rattle.nor_poll.specs.Losing.{IsUnmoved}
+use Rattle.nor_bank.specs.Refused.{outline}
 use Rattle.nor_bank.specs.Stands.{Stands}
 use Rattle.nor_bank.specs.State.{BankState, blocks_of}
 use Rattle.nor_bank.specs.Way.{HoldsAll, halting}
@@ -27,6 +29,12 @@ blocks_met f (Range at (suc n)) = block_at (blocks_of f) (at + n) + 1 - block_at
 blocks_met f (Block k) = 1
 blocks_met f Everywhere = length (blocks_of f)
 
+-- a touched block of the bank, where locks are offered: its lock is read
+pub record HasReadLock (b : BankState) (reach : Reach) (k : ℕ) : Type 0 where
+  pub offers : locks_of b.found.query.extended ≡ true
+  pub there : k < length (blocks_of b.found)
+  pub touched : touches (outline b) reach k ≡ true
+
 -- how many cycles the reads of their locks take at most
 abbrev pub locks_most : Found → Reach → ℕ
 locks_most f reach = if locks_of f.query.extended then 6 * blocks_met f reach else 0
@@ -37,7 +45,8 @@ pub record ShowsArray (b : BankState) (a : ArrayState) : Type 0 where
   pub stands : Stands b a
   pub shown : AllLanes IsShown b.bus
 
--- Locks were read, by at most so many cycles. A bank that showed its array still does, and each chip is as it was.
+-- Locks were read, by at most so many cycles. A bank that showed its array still does, and each
+-- chip is as it was.
 pub record ReadsLocks (most : ℕ) (old new : BankState) : Type 0 where
   pub kept : new ≡ with_bus old new.bus
   pub cycles : ℕ

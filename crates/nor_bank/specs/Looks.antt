@@ -75,8 +75,8 @@ pub record LaneLooks (set : Set) (target : Target) (before after : LaneState) (c
   pub ends : IsAwaited before → after ≢ Running → erase_left s < cycles
 
 -- So it is with each lane, and where none runs then each shows its array.
-pub record LooksBy (Can : Target → Type 0) (most : ℕ) (set : Set) (width : ℕ) (g : Geometry) (at : ℕ)
-    (lanes : Lanes) (old new : BusState) (now : Lanes) : Type 0 where
+pub record LooksBy (Can : Target → Type 0) (most : ℕ) (set : Set) (width : ℕ) (g : Geometry)
+    (at : ℕ) (lanes : Lanes) (old new : BusState) (now : Lanes) : Type 0 where
   pub cycles : ℕ
   pub few : cycles ≤ most
   pub went : Went cycles cycles old new

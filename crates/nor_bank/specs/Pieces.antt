@@ -1,20 +1,18 @@
 -- Programming a range of a bank's bytes piece by piece: the words that wait to be programmed at once.
-use Rattle.std.specs.Prelude.{◌≡◌, ◌<◌, ◌≤◌, ◌+◌, ◌-◌, ◌*◌, ◌/◌, ◌&&◌, max, min, nat_lt, ℕ, List, [], length, get_or, slice_index, bit_and, Bool, true, false, if◌then◌else◌, Option, Some, None}
+use Rattle.std.specs.Prelude.{◌≡◌, ◌<◌, ◌+◌, ◌-◌, ◌*◌, ◌/◌, ◌&&◌, max, min, nat_lt, ℕ, List, [], length, get_or, slice_index, bit_and, Bool, true, false, if◌then◌else◌, Option, Some, None}
 use Rattle.nor_cell.specs.Chip.{ChipState, block_at, block_of}
 use Rattle.nor_cell.specs.Loads.{room}
 use Rattle.nor_cell.specs.declared.device.Device.{Device}
-use Rattle.nor_cell.specs.declared.device.Work.TheVariants.{Word, Buffer}
 use Rattle.nor_cell.specs.declared.geometry.Geometry.{Geometry}
-use Rattle.nor_query.specs.Derived.{limit_of}
 use Rattle.nor_probe.specs.declared.probing.Found.{Found}
 use Rattle.nor_bus.specs.Bus.{BusState, bank_byte}
 use Rattle.nor_bus.specs.Driven.{AllLanes, Counted}
 use Rattle.nor_poll.specs.Buffer.{load_reads}
 use Rattle.nor_poll.specs.Word.{word_most}
 use Rattle.nor_poll.specs.declared.lanes.Halt.{Halt}
-use Rattle.nor_bank.specs.Programs.{CanProgram, ForBroken, GivesUp, LeavesBy, MeetsPiece, ProgramsPiece, RangeBecomes, Takes, begin_of, end_of, goes_on, changes_of, datum_at, word_passes, words_passing}
+use Rattle.nor_bank.specs.Programs.{CanProgram, ForBroken, GivesUp, LeavesBy, MeetsPiece, NamesLanes, ProgramsPiece, RangeBecomes, Takes, begin_of, end_of, goes_on, changes_of, datum_at, word_passes, words_passing}
 use Rattle.nor_bank.specs.Ranges.{MeetsWord, words_met}
-use Rattle.nor_bank.specs.Runs.{IsRun, joins_in, units_in}
+use Rattle.nor_bank.specs.Runs.{IsRun, joins_in, least_limit, limit_in, load_limit_in, most_limit, units_in}
 use Rattle.nor_bank.specs.State.{BankState, blocks_of, word_bytes}
 use Rattle.nor_bank.specs.Way.{cause_of, halting}
 use Rattle.nor_bank.specs.Work.{with_bus}
@@ -23,21 +21,6 @@ use Rattle.nor_array.specs.declared.entry.Reply.TheVariants.{Done, Failed, Halte
 use Rattle.nor_bank.specs.declared.programming.Piece.{Piece}
 use Rattle.nor_bank.specs.declared.programming.Outcome.{Outcome}
 use Rattle.nor_bank.specs.declared.programming.Outcome.TheVariants.{Skipped, Stored, BrokeOff, GivenUp}
-
--- ---- how often a lane may be read working
-
-abbrev pub limit_in : Found → ℕ
-limit_in f = limit_of f.query.times Word
-
-abbrev pub load_limit_in : Found → ℕ
-load_limit_in f = limit_of f.query.times Buffer
-
--- by either way, at least and at most
-abbrev pub least_limit : Found → ℕ
-least_limit f = min (limit_in f) (load_limit_in f)
-
-abbrev pub most_limit : Found → ℕ
-most_limit f = max (limit_in f) (load_limit_in f)
 
 -- how many cycles a bus word costs at most
 abbrev pub word_cost_in : Found → ℕ
@@ -146,6 +129,7 @@ pub record ProgramsRange (w at : ℕ) (new : List ℕ) (f : Found) (outcome : Ou
       old now
   pub costs : goes_on outcome ≡ true → CanProgramAll w f at (length new) old → CostsWords w f at new old now
   pub there : ForBroken outcome (λ piece. MeetsPiece w piece at (length new))
+  pub named : NamesLanes f.geometry.lanes outcome
   pub run : CanProgramAll w f at (length new) old
       → ForBroken outcome (λ piece.
       IsRun w f (changes_of f.geometry old at new) at (length new) piece.first piece.words)

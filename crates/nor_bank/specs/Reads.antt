@@ -13,16 +13,20 @@ use Rattle.nor_bank.specs.Work.{with_bus}
 -- Each bus word that the range meets was read, and these are its bytes.
 pub record ReadsReady (width at : ℕ) (old new : BankState) (into : List ℕ) : Type 0 where
   pub kept : new ≡ with_bus old new.bus
-  pub went : Went (words_met at (length into) width) (words_met at (length into) width) old.bus new.bus
-  pub reads : (device : Device) → CanRead width device old.bus at (length into) → ReadsRange device old.bus new.bus at into
+  pub went : Went (words_met at (length into) width) (words_met at (length into) width)
+      old.bus new.bus
+  pub reads : (device : Device) → CanRead width device old.bus at (length into)
+      → ReadsRange device old.bus new.bus at into
 
 -- A cycle failed, and the halt is kept.
 pub record LosesRead (width at len : ℕ) (old new : BankState) : Type 0 where
   pub kept : new ≡ halting (with_bus old new.bus) (Off old.after)
   pub lost : Lost (words_met at len width) old.bus new.bus
-  pub dark : (device : Device) → CanRead width device old.bus at len → EachLane Darkens old.bus new.bus
+  pub dark : (device : Device) → CanRead width device old.bus at len
+      → EachLane Darkens old.bus new.bus
 
 abbrev pub ReadsBank : (width at : ℕ) → (old new : BankState) → List ℕ → Reply → Type 0
 ReadsBank width at old new into Done = ReadsReady width at old new into
-ReadsBank width at old new into (Halted (Off n)) = (n ≡ old.after) × LosesRead width at (length into) old new
+ReadsBank width at old new into (Halted (Off n)) = (n ≡ old.after)
+    × LosesRead width at (length into) old new
 ReadsBank width at old new into _ = ⊥

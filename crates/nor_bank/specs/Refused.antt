@@ -1,4 +1,5 @@
--- What a bank answers any call without work: by what it keeps, and by what the call touches and asks for.
+-- What a bank answers any call without work: by what it keeps, and by what the call touches and
+-- asks for.
 use Rattle.std.specs.Prelude.{◌≡◌, ◌&&◌, not, ℕ, [], ◌∷◌, replicate, Option, Some, None, Bool, true, false}
 use Rattle.nor_bus.specs.Cycles.{BusFails}
 use Rattle.nor_query.specs.Derived.{locks_of, chip_erase_of}
@@ -24,7 +25,8 @@ kept_cut None = None
 kept_cut (Some (Off after)) = Some (record { after = after; mask = 0 })
 kept_cut (Some (Stuck k)) = None
 
--- An array as large as the bank, with its blocks and what it offers and keeps: all that refusals look at.
+-- An array as large as the bank, with its blocks and what it offers and keeps: all that refusals
+-- look at.
 abbrev pub outline : BankState → ArrayState
 outline b = record {
   consts = constants_of b.found [] [];

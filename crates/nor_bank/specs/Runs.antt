@@ -1,7 +1,9 @@
 -- The pieces of a program: runs of bus words that change, each in one buffer page and one block.
-use Rattle.std.specs.Prelude.{◌≡◌, ◌<◌, ◌≤◌, ◌+◌, ◌-◌, ◌*◌, ◌/◌, ◌==◌, ◌&&◌, ◌⊎◌, min, max, nat_lt, ℕ, List, length, Bool, true, false}
+use Rattle.std.specs.Prelude.{◌≡◌, ◌<◌, ◌≤◌, ◌+◌, ◌*◌, ◌/◌, ◌==◌, ◌&&◌, min, max, nat_lt, ℕ, List, length, Bool, true, false, if◌then◌else◌}
 use Rattle.nor_cell.specs.Chip.{block_at}
 use Rattle.nor_cell.specs.Table.{buffer_units_of}
+use Rattle.nor_cell.specs.declared.device.Work.TheVariants.{Word, Buffer}
+use Rattle.nor_query.specs.Derived.{limit_of}
 use Rattle.nor_probe.specs.declared.probing.Found.{Found}
 use Rattle.nor_array.specs.Array.{ArrayState}
 use Rattle.nor_array.specs.Admits.{would_change}
@@ -11,6 +13,24 @@ use Rattle.nor_bank.specs.State.{BankState, word_bytes, blocks_of}
 
 abbrev pub units_in : Found → ℕ
 units_in f = buffer_units_of f.geometry.device f.query.buffer_log
+
+-- ---- how often a lane may be read working
+
+abbrev pub limit_in : Found → ℕ
+limit_in f = limit_of f.query.times Word
+
+abbrev pub load_limit_in : Found → ℕ
+load_limit_in f = limit_of f.query.times Buffer
+
+-- in a program, at least: the limit of a word; where the bank has a buffer, the lesser one
+abbrev pub least_limit : Found → ℕ
+least_limit f = if nat_lt 0 (units_in f) then min (limit_in f) (load_limit_in f) else limit_in f
+
+-- and at most
+abbrev pub most_limit : Found → ℕ
+most_limit f = max (limit_in f) (load_limit_in f)
+
+-- ---- runs
 
 -- with a buffer, words u and v lie in one page of it and in one block
 abbrev pub joins_in : (width : ℕ) → Found → (u v : ℕ) → Bool

@@ -1,17 +1,16 @@
 -- The way to the chips: what a call does before its work where something is under erase.
-use Rattle.std.specs.Prelude.{◌≡◌, ◌≢◌, ◌<◌, ◌≤◌, ◌+◌, ◌*◌, ◌/◌, ◌⊎◌, ℕ, List, [], length, slice_index, Bool, true, false, Option, Some, None, if◌then◌else◌}
+use Rattle.std.specs.Prelude.{◌≡◌, ◌≢◌, ◌<◌, ◌≤◌, ◌+◌, ◌*◌, ◌/◌, ◌⊎◌, ℕ, List, length, slice_index, Bool, true, false, Option, Some, None, if◌then◌else◌}
 use Rattle.nor_cell.specs.Between.{IsShown}
 use Rattle.nor_cell.specs.Chip.{ChipState, NotHeld, block, counted}
 use Rattle.nor_cell.specs.Steps.{Remains}
 use Rattle.nor_cell.specs.Table.{suspend_kind, can_program_suspended}
 use Rattle.nor_probe.specs.declared.probing.Found.{Found}
 use Rattle.nor_query.specs.Derived.{suspend_of, locks_of}
-use Rattle.nor_bus.specs.Bus.{BusState, lane, lanes_of}
+use Rattle.nor_bus.specs.Bus.{lane, lanes_of}
 use Rattle.nor_bus.specs.Driven.{AllLanes, EachLane, Went, Lost, Counted}
 use Rattle.nor_array.specs.Array.{ArrayState}
 use Rattle.nor_array.specs.Needs.{needs_of}
 use Rattle.nor_array.specs.Admits.{first_locked}
-use Rattle.nor_array.specs.Refusals.{is_power_on}
 use Rattle.nor_array.specs.declared.needs.CallNeeds.{CallNeeds}
 use Rattle.nor_array.specs.declared.state.Target.{Target}
 use Rattle.nor_array.specs.declared.state.Target.TheVariants.{OneBlock, AllBlocks}
@@ -22,14 +21,13 @@ use Rattle.nor_array.specs.declared.entry.Reply.{Reply}
 use Rattle.nor_array.specs.declared.entry.Reply.TheVariants.{Halted as HaltedReply}
 use Rattle.nor_array.specs.declared.entry.Op.TheVariants.{Program, EraseAll, Poll, Arm, PowerOn}
 use Rattle.nor_poll.specs.UnderErase.{erase_left, state_at}
-use Rattle.nor_poll.specs.declared.lanes.LaneState.{LaneState}
 use Rattle.nor_poll.specs.declared.lanes.LaneState.TheVariants.{Running, Suspended}
 use Rattle.nor_poll.specs.declared.lanes.Lanes.{Lanes}
 use Rattle.nor_poll.specs.declared.lanes.Halt.{Halt}
 use Rattle.nor_poll.specs.declared.lanes.Halt.TheVariants.{Off, Stuck}
 use Rattle.nor_bank.specs.State.{BankState, size_of, blocks_of, byte_of}
 use Rattle.nor_bank.specs.Stands.{Stands, IsKnown, constants_of, is_under}
-use Rattle.nor_bank.specs.Counts.{is_open, can_beside, suspends_after, GoesOn, Nears, Waits}
+use Rattle.nor_bank.specs.Counts.{is_open, can_beside, suspends_after, GoesOn, LeftFalls, Nears, Waits}
 use Rattle.nor_bank.specs.Looks.{IsAwaited, WorksOn}
 use Rattle.nor_bank.specs.Refused.{Works}
 use Rattle.nor_bank.specs.Work.{with_bus, words_in}
@@ -92,7 +90,7 @@ looked e now b = record b { erase = Some (record e { polls = e.polls + 1; lanes 
 pub record LooksAt (cycles : ℕ) (s t : ChipState) : Type 0 where
   pub remains : Remains s t
   pub suspends : t.suspends ≡ s.suspends
-  pub left : erase_left s ≤ erase_left t + cycles
+  pub left : LeftFalls cycles s t
   pub nears : Nears s t
 
 -- The bank goes on to stand for its array, and counts a poll. Then no lane is suspended; one that
@@ -141,7 +139,7 @@ way_most = 43
 pub record PassesBy (may : Bool) (cycles : ℕ) (s t : ChipState) : Type 0 where
   pub remains : Remains s t
   pub suspends : t.suspends ≡ suspends_after may s
-  pub left : erase_left s ≤ erase_left t + cycles
+  pub left : LeftFalls cycles s t
 
 -- The bank goes on to stand for its array. Where the way is clear the chips are ready; else a lane worked.
 pub record StandsOn (programs clear : Bool) (cycles : ℕ) (old new : BankState) (a : ArrayState) : Type 0 where
@@ -174,7 +172,7 @@ LosesWay most old new Off =
     Lost most old.bus new.bus
     × (IsOfBlock old.erase → (a : ArrayState) → Stands old a → BreaksWay old new a)
 LosesWay most old new (Stuck k) =
-    Counted 20 most old.bus new.bus
+    ((k < old.found.geometry.lanes) × Counted 20 most old.bus new.bus)
     × (IsOfBlock old.erase → (a : ArrayState) → Stands old a
     → BreaksWay old new a × ((lane old.bus k).part.stuck ≡ true))
 

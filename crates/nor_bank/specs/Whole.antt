@@ -1,28 +1,33 @@
 -- What every call of a bank promises.
-use Rattle.std.specs.Prelude.{◌≡◌, ◌≢◌, ◌≤◌, ℕ, List, [], Bool, true, false, Option, Some, None}
-use Rattle.nor_cell.specs.Chip.{Idle}
-use Rattle.nor_bus.specs.Bus.{BusState, more}
+use Rattle.std.specs.Prelude.{◌≡◌, ◌<◌, ◌≤◌, ◌+◌, ℕ, List, [], length, Bool, true, false, Option, Some, None}
+use Rattle.nor_cell.specs.Chip.{Idle, span_end}
+use Rattle.nor_bus.specs.Bus.{more}
 use Rattle.nor_bus.specs.Cycles.{KeepsLanes, PowersOn}
 use Rattle.nor_bus.specs.Driven.{AllLanes, EachLane}
+use Rattle.nor_probe.specs.declared.probing.Found.{Found}
 use Rattle.nor_array.specs.Array.{ArrayState}
+use Rattle.nor_array.specs.Admits.{may_come}
 use Rattle.nor_array.specs.Needs.{needs_of}
-use Rattle.nor_array.specs.declared.entry.Halted.{Halted as HaltCause}
 use Rattle.nor_array.specs.declared.entry.Halted.TheVariants.{Off, Stuck}
 use Rattle.nor_array.specs.declared.entry.Op.{Op}
-use Rattle.nor_array.specs.declared.entry.Op.TheVariants.{Read, Program, EraseOpen, EraseAll, Poll, Lock, Unlock, IsLocked, Arm, PowerOn}
+use Rattle.nor_array.specs.declared.entry.Op.TheVariants.{Read, Program, Poll, Lock, Unlock, IsLocked, Arm, PowerOn}
 use Rattle.nor_array.specs.declared.entry.Reply.{Reply}
 use Rattle.nor_array.specs.declared.entry.Reply.TheVariants.{Done, Opened, Erased, Bit, Locked, NotYet, Failed, Halted}
 use Rattle.nor_bank.specs.Calls.{MakesEntry, entry_of}
 use Rattle.nor_bank.specs.Counts.{is_open, Spends, Counts, KeepsErase, Waits, IsBelowLimit, ReadsStuck}
+use Rattle.nor_bank.specs.Erases.{erased_span}
+use Rattle.nor_bank.specs.Locks.{HasReadLock}
+use Rattle.nor_bank.specs.Programs.{AreSome}
 use Rattle.nor_bank.specs.Refused.{bank_refusal, Refuses, Works}
-use Rattle.nor_bank.specs.Stands.{Stands}
+use Rattle.nor_bank.specs.Stands.{Stands, under_of}
 use Rattle.nor_bank.specs.State.{BankState}
 use Rattle.nor_bank.specs.Work.{kept_after}
+use Rattle.nor_bank.specs.declared.kept.Erasing.{Erasing}
 
 -- ---- what a call leaves, whatever bus it is on
 
--- What was found stays, and of each chip what it is. A halt is kept, and what the bank keeps of an erase is as the reply
--- says.
+-- What was found stays, and of each chip what it is. A halt is kept, and what the bank keeps of an
+-- erase is as the reply says.
 pub record LeavesBank (caller : ℕ) (op : Op) (old new : BankState) (reply : Reply) : Type 0 where
   pub found : new.found ≡ old.found
   pub after : new.after ≡ old.after
@@ -59,24 +64,31 @@ pub record MakesCall (caller : ℕ) (op : Op) (old new : BankState) (reply : Rep
 
 -- ---- a call
 
--- what a call may answer that nothing refuses, on any bus
-abbrev pub may_answer : Op → Reply → Bool
-may_answer op NotYet = true
-may_answer op (Halted cause) = true
-may_answer (Read at len) Done = true
-may_answer (Program at new) Done = true
-may_answer (Program at new) (Locked b) = true
-may_answer (Program at new) (Failed from to lanes) = true
-may_answer (EraseOpen k) Opened = true
-may_answer (EraseOpen k) (Locked b) = true
-may_answer EraseAll Opened = true
-may_answer EraseAll (Locked b) = true
-may_answer Poll Erased = true
-may_answer Poll (Failed from to lanes) = true
-may_answer (Lock k) Done = true
-may_answer (Unlock k) Done = true
-may_answer (IsLocked k) (Bit locked) = true
-may_answer op reply = false
+-- from here up to there is all that was under erase
+abbrev pub IsErasedPart : Option Erasing → Found → (from to : ℕ) → Type 0
+IsErasedPart None f from to = ⊥
+IsErasedPart (Some e) f from to =
+    (from ≡ (erased_span f e.target).from) × (to ≡ span_end (erased_span f e.target))
+
+-- What a call may answer that nothing refuses, on any bus: some of it as the call's needs say.
+abbrev pub MayAnswer : Op → BankState → Reply → Type 0
+MayAnswer op b NotYet = may_come (needs_of op).waits (under_of b.erase) ≡ true
+MayAnswer op b (Halted (Off n)) = Unit {0}
+MayAnswer op b (Halted (Stuck k)) =
+    (k < b.found.geometry.lanes) × (may_come (needs_of op).sticks (under_of b.erase) ≡ true)
+MayAnswer op b (Locked k) = ((needs_of op).unlocked ≡ true) × HasReadLock b (needs_of op).reach k
+MayAnswer op b Opened = (needs_of op).opens ≡ true
+MayAnswer (Read at len) b Done = Unit {0}
+MayAnswer (Program at new) b Done = Unit {0}
+MayAnswer (Program at new) b (Failed from to lanes) =
+    (at ≤ from) × (from < to) × (to ≤ at + length new) × AreSome b.found.geometry.lanes lanes
+MayAnswer Poll b Erased = Unit {0}
+MayAnswer Poll b (Failed from to lanes) =
+    IsErasedPart b.erase b.found from to × AreSome b.found.geometry.lanes lanes
+MayAnswer (Lock k) b Done = Unit {0}
+MayAnswer (Unlock k) b Done = Unit {0}
+MayAnswer (IsLocked k) b (Bit locked) = Unit {0}
+MayAnswer op b reply = ⊥
 
 -- a call of the chips; the others are arm and power-on
 pub record IsCallOf (caller : ℕ) (op : Op) (old new : BankState) (reply : Reply) (given : List ℕ) : Type 0 where
@@ -85,7 +97,7 @@ pub record IsCallOf (caller : ℕ) (op : Op) (old new : BankState) (reply : Repl
   -- A call that asks nothing of the chips is done, and leaves all as it was.
   pub idle : bank_refusal old caller op ≡ None → (needs_of op).idle ≡ true → (reply ≡ Done) × (new ≡ old)
   -- Any other call gives an answer of its kind, and makes one entry.
-  pub answers : Works caller op old → may_answer op reply ≡ true
+  pub answers : Works caller op old → MayAnswer op old reply
   pub makes : (a : ArrayState) → Stands old a → MakesCall caller op old new reply given a
   pub leaves : LeavesBank caller op old new reply
   pub spends : Spends op reply old new

@@ -1,9 +1,8 @@
 -- What a call meets before it works, and what it keeps.
-use Rattle.std.specs.Prelude.{◌≡◌, ◌+◌, ◌*◌, ◌/◌, ℕ, List, [], ◌∷◌, length, nat_lt, nat_le, Option, Some, None}
+use Rattle.std.specs.Prelude.{◌≡◌, ◌+◌, ◌/◌, ℕ, List, [], ◌∷◌, length, nat_lt, nat_le, Option, Some, None}
 use Rattle.nor_cell.specs.Chip.{ChipState}
 use Rattle.nor_bus.specs.Bus.{BusState}
 use Rattle.nor_bus.specs.Cycles.{BusFails, KeepsLanes}
-use Rattle.nor_bus.specs.Driven.{Counted}
 use Rattle.nor_array.specs.Array.{ArrayState}
 use Rattle.nor_array.specs.Admits.{would_change}
 use Rattle.nor_array.specs.Needs.{needs_of}
@@ -15,14 +14,10 @@ use Rattle.nor_array.specs.declared.entry.Halted.{Halted as HaltCause}
 use Rattle.nor_array.specs.declared.entry.Halted.TheVariants.{Off, Stuck}
 use Rattle.nor_array.specs.declared.entry.Reply.{Reply}
 use Rattle.nor_array.specs.declared.entry.Reply.TheVariants.{OutOfRange, TooLong, Halted}
-use Rattle.nor_cell.specs.declared.device.Work.TheVariants.{Word}
-use Rattle.nor_query.specs.Derived.{limit_of}
-use Rattle.nor_poll.specs.Word.{word_most}
-use Rattle.nor_bank.specs.Programs.{CanProgram, RangeBecomes, changes_at, words_passing}
-use Rattle.nor_bank.specs.declared.programming.Outcome.{Outcome}
+use Rattle.nor_bank.specs.Programs.{words_passing}
 use Rattle.nor_bank.specs.Ranges.{words_met}
 use Rattle.nor_bank.specs.Stands.{Stands}
-use Rattle.nor_bank.specs.State.{BankState, size_of, blocks_of, word_bytes, byte_of}
+use Rattle.nor_bank.specs.State.{BankState, size_of, blocks_of, word_bytes}
 use Rattle.nor_probe.specs.declared.probing.Found.{Found}
 
 -- ---- what a bank answers without asking its chips
@@ -73,10 +68,6 @@ pub record StaysFiled (s t : ChipState) : Type 0 where
 pub record StandsClosed (b : BankState) (a : ArrayState) : Type 0 where
   pub stands : Stands b a
   pub closed : b.erase ≡ None
-
--- how often a word may be read working
-abbrev pub word_limit : BankState → ℕ
-word_limit b = limit_of b.found.query.times Word
 
 -- how many bus words a range meets
 abbrev pub words_in : BankState → (at len : ℕ) → ℕ

@@ -1,5 +1,5 @@
 //! Erases in turns.
-ghost use Rattle.std.specs.Prelude.{◌≡◌, ◌<◌, ◌≤◌, ◌^◌, [], ℕ, length, Some, None};
+ghost use Rattle.std.specs.Prelude.{◌≡◌, ◌<◌, ◌≤◌, ◌^◌, [], ℕ, Some, None};
 ghost use Rattle.nor_cell.specs.Chip.{span_end};
 ghost use Rattle.nor_array.specs.Array.{IsThere};
 ghost use Rattle.nor_array.specs.declared.entry.Op.TheVariants.{EraseOpen, EraseAll, Poll};

@@ -1,5 +1,5 @@
 //! Block locks.
-ghost use Rattle.std.specs.Prelude.{◌≡◌, ◌<◌, ◌+◌, ℕ, [], length, IfOk, OnOk, OnErr, IfErr, true, None};
+ghost use Rattle.std.specs.Prelude.{◌≡◌, ◌<◌, ◌+◌, ℕ, [], length, IfOk, IfSome, OnOk, OnErr, IfErr, true, None};
 ghost use Rattle.nor_array.specs.Array.{ArrayState, is_locked as is_locked_in};
 ghost use Rattle.nor_array.specs.Admits.{lowest_locked as lowest_in};
 ghost use Rattle.nor_array.specs.declared.entry.Op.TheVariants.{Lock, Unlock, IsLocked};
@@ -8,7 +8,7 @@ ghost use Rattle.nor_poll.specs.Codes.{cycle_count};
 ghost use Rattle.nor_poll.specs.Lock.{SetsLock, LosesLock, lock_command};
 ghost use Rattle.nor_poll.specs.declared.codes.Command.TheVariants.{LeaveLocks};
 ghost use Rattle.nor_query.specs.Derived.{locks_of};
-ghost use Rattle.nor_bank.specs.Locks.{ShowsArray, ReadsLocks, LosesLocks, locks_most, lock_op};
+ghost use Rattle.nor_bank.specs.Locks.{HasReadLock, ShowsArray, ReadsLocks, LosesLocks, locks_most, lock_op};
 ghost use Rattle.nor_bank.specs.State.{blocks_of};
 ghost use Rattle.nor_bank.specs.Whole.{IsCallOf};
 ghost use Rattle.nor_bank.specs.Work.{reach_refusal};
@@ -68,6 +68,7 @@ impl<W: BusWord, B: Bus<W>> Bank<W, B> {
         requires { reach_refusal (self.old).found reach ≡ None }
         ensures lowest { IfOk result (λ lowest. (a : ArrayState) → ShowsArray self.old a
             → lowest ≡ lowest_in a reach) }
+        ensures found { IfOk result (λ lowest. IfSome lowest (λ k. HasReadLock self.old reach k)) }
         ensures reads { OnOk result
             (ReadsLocks (locks_most (self.old).found reach) self.old self.new) }
         ensures loses { IfErr result

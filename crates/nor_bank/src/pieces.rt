@@ -11,11 +11,11 @@ ghost use Rattle.nor_array.specs.declared.entry.Reply.TheVariants.{Done as DoneR
 ghost use Rattle.nor_poll.specs.Word.{word_most};
 ghost use Rattle.nor_probe.specs.declared.probing.Found.{Found as FoundValue};
 ghost use Rattle.nor_bank.specs.Counts.{program_limit, IsPaused};
-ghost use Rattle.nor_bank.specs.Pieces.{CanProgramAll, CostsWords, EndsPiece, HaltsPiece, ProgramsBank, ReadsWord, TakesPiece, Wait, due_in, least_limit, piece_before, word_cost_in};
-ghost use Rattle.nor_bank.specs.Programs.{ForBroken, MeetsPiece, PieceBecomes, RangeBecomes, Takes, changes_of, goes_on};
+ghost use Rattle.nor_bank.specs.Pieces.{CanProgramAll, CostsWords, EndsPiece, HaltsPiece, ProgramsBank, ReadsWord, TakesPiece, Wait, due_in, piece_before, word_cost_in};
+ghost use Rattle.nor_bank.specs.Programs.{ForBroken, MeetsPiece, NamesLanes, PieceBecomes, RangeBecomes, Takes, changes_of, goes_on};
 ghost use Rattle.nor_bank.specs.declared.programming.Outcome.TheVariants.{Skipped as Skip};
 ghost use Rattle.nor_bank.specs.Ranges.{MeetsWord, words_met};
-ghost use Rattle.nor_bank.specs.Runs.{FailsInRun, IsRun, joins_in};
+ghost use Rattle.nor_bank.specs.Runs.{FailsInRun, IsRun, joins_in, least_limit, units_in};
 ghost use Rattle.nor_bank.specs.Stands.{Stands};
 ghost use Rattle.nor_bank.specs.State.{size_of, word_bytes};
 ghost use Rattle.nor_bank.specs.Way.{change_most};
@@ -120,10 +120,12 @@ fn program_piece<W: BusWord, B: Bus<W>>(
         found.now.geometry.device) }
     requires some { 0 < piece.words }
     requires few { piece.words ≤ MOST }
+    requires buffered { 1 < piece.words → 0 < units_in found.now }
     ensures ends { IfOk result (λ lanes. EndsPiece W.WIDTH found.now piece.first piece.words
         (map W.bytes words.now) lanes.bits (B.state bus.old) (B.state bus.new)) }
     ensures counted { OnOk result (Counted piece.words (piece.words * word_cost_in found.now)
         (B.state bus.old) (B.state bus.new)) }
+    ensures few { IfOk result (λ lanes. lanes.bits < 2 ^ found.now.geometry.lanes) }
     ensures halts { IfErr result (λ halt. HaltsPiece W.WIDTH found.now piece.first piece.words
         (map W.bytes words.now) halt (B.state bus.old) (B.state bus.new)) }
 {
@@ -149,6 +151,7 @@ fn program_waiting<W: BusWord, B: Bus<W>>(
         found.now.geometry.device) }
     requires before { n ≤ u }
     requires few { n ≤ MOST }
+    requires buffered { 1 < n → 0 < units_in found.now }
     ensures becomes { (at : ℕ) (new : List ℕ)
         → CanProgramAll W.WIDTH found.now at (length new) (B.state bus.old)
         → Wait W.WIDTH found.now at new (u - n) n (map W.bytes words.now) (B.state bus.old)
@@ -157,6 +160,7 @@ fn program_waiting<W: BusWord, B: Bus<W>>(
     ensures takes { TakesPiece found.now n result (B.state bus.old) (B.state bus.new) }
     ensures none { n ≡ 0 → (result ≡ Skip) × (B.state bus.new ≡ B.state bus.old) }
     ensures this { ForBroken result (λ piece. (piece ≡ piece_before n u) × (0 < n)) }
+    ensures named { NamesLanes found.now.geometry.lanes result }
 {
     if n == 0 {
         return Outcome::Skipped;
@@ -195,6 +199,7 @@ fn program_range<W: BusWord, B: Bus<W>>(bus: &mut B, found: &Found, at: u32, new
         → CanProgramAll W.WIDTH found.now at (length new.now) (B.state bus.old)
         → CostsWords W.WIDTH found.now at new.now (B.state bus.old) (B.state bus.new) }
     ensures there { ForBroken result (λ piece. MeetsPiece W.WIDTH piece at (length new.now)) }
+    ensures named { NamesLanes found.now.geometry.lanes result }
     ensures run { CanProgramAll W.WIDTH found.now at (length new.now) (B.state bus.old)
         → ForBroken result (λ piece. IsRun W.WIDTH found.now
         (changes_of found.now.geometry (B.state bus.old) at new.now) at (length new.now)

@@ -72,9 +72,10 @@ impl<W: BusWord, B: Bus<W>> Bank<W, B> {
 
     // The first refusal of a call that touches blocks. After a loss of power a cycle is tried.
     pub(crate) fn refused(&mut self, needs: CallNeeds) -> Option<Reply>
-        ensures reply { (caller : ℕ) (op : Op) → HasNeeds needs op → result ≡ bank_refusal self.old caller op }
-        ensures call { IfSome result (λ reply. (caller : ℕ) (op : Op) (given : List ℕ) → HasNeeds needs op
-            → IsCallOf caller op self.old self.new reply given) }
+        ensures reply { (caller : ℕ) (op : Op) → HasNeeds needs op
+            → result ≡ bank_refusal self.old caller op }
+        ensures call { IfSome result (λ reply. (caller : ℕ) (op : Op) (given : List ℕ)
+            → HasNeeds needs op → IsCallOf caller op self.old self.new reply given) }
         ensures same { result ≡ None → self.new ≡ self.old }
         ensures there { result ≡ None → reach_refusal (self.old).found needs.reach ≡ None }
         ensures running { result ≡ None → (self.old).halted ≡ None }

@@ -1,5 +1,5 @@
 //! The way to the chips: what a call does before its work where something is under erase.
-ghost use Rattle.std.specs.Prelude.{◌≡◌, ◌≢◌, ◌<◌, ◌≤◌, ◌+◌, ◌*◌, ◌/◌, ℕ, Bool, true, false, List, [], length, Option, Some, None, IfSome, IfOk, IfErr, IsNone, OnOk, OnErr};
+ghost use Rattle.std.specs.Prelude.{◌≡◌, ◌≢◌, ◌<◌, ◌≤◌, ◌/◌, ℕ, Bool, true, false, List, [], length, Option, Some, None, IfSome, IfOk, IfErr, IsNone, OnOk, OnErr};
 ghost use Rattle.nor_cell.specs.Chip.{block as span_at};
 ghost use Rattle.nor_cell.specs.Table.{can_suspend};
 ghost use Rattle.nor_query.specs.Derived.{suspend_of};
@@ -7,7 +7,7 @@ ghost use Rattle.nor_array.specs.Array.{IsThere};
 ghost use Rattle.nor_array.specs.declared.entry.Op.{Op};
 ghost use Rattle.nor_poll.specs.UnderErase.{state_at};
 ghost use Rattle.nor_array.specs.Array.{ArrayState};
-ghost use Rattle.nor_array.specs.declared.entry.Reply.TheVariants.{Done as DoneReply, Halted as HaltedReply, Failed as FailedReply};
+ghost use Rattle.nor_array.specs.declared.entry.Reply.TheVariants.{Done as DoneReply, Failed as FailedReply};
 ghost use Rattle.nor_bus.specs.Driven.{EachLane};
 ghost use Rattle.nor_bank.specs.Counts.{can_beside, is_open, IsPaused};
 ghost use Rattle.nor_bank.specs.Stands.{Stands};
@@ -16,7 +16,7 @@ ghost use Rattle.nor_bank.specs.Looks.{NoLaneIs};
 ghost use Rattle.nor_bank.specs.State.{blocks_of};
 ghost use Rattle.nor_bank.specs.Way.{erased_at, Looks, LosesLook, ClearsWay, HaltsWay, HasNeeds, BeginsWork, BeginsChange, IsOfBlock, MayCountSuspend, way_most, change_most, cause_of as cause_in};
 ghost use Rattle.nor_bank.specs.Whole.{IsCallOf};
-ghost use Rattle.nor_bank.specs.Work.{with_bus, reach_refusal};
+ghost use Rattle.nor_bank.specs.Work.{reach_refusal};
 
 use crate::halts::keep_halt;
 use crate::looking::{has_lane, look_once};
@@ -140,12 +140,13 @@ impl<W: BusWord, B: Bus<W>> Bank<W, B> {
         ensures halts { IfErr result (HaltsWay way_most self.old self.new) }
         ensures closed { OnOk result ((self.old).erase ≡ None → self.new ≡ self.old) }
         ensures paused { OnOk result (IsPaused self.old
-            → can_beside (suspend_of (self.old).found.query.extended) programs ≡ true → self.new ≡ self.old) }
+            → can_beside (suspend_of (self.old).found.query.extended) programs ≡ true
+            → self.new ≡ self.old) }
         ensures waits { IfOk result (λ clear. clear ≡ false → is_open (self.old).erase ≡ true) }
         ensures beside { OnErr result (is_open (self.old).erase ≡ true) }
-        ensures counts { OnErr result (IsOfBlock (self.old).erase → (a : ArrayState) → Stands self.old a
-            → EachLane (MayCountSuspend (can_beside (suspend_of (self.old).found.query.extended) programs))
-            (self.old).bus (self.new).bus) }
+        ensures counts { OnErr result (IsOfBlock (self.old).erase
+            → (a : ArrayState) → Stands self.old a → EachLane (MayCountSuspend
+            (can_beside (suspend_of (self.old).found.query.extended) programs)) (self.old).bus (self.new).bus) }
     {
         let Some(erase) = self.erase else {
             return Ok(true);
@@ -163,19 +164,21 @@ impl<W: BusWord, B: Bus<W>> Bank<W, B> {
     // is done for that where nothing is under erase, or no lane of it runs that could be suspended.
     pub(crate) fn before_work(&mut self, needs: CallNeeds, programs: bool) -> Option<Reply>
         requires programs { programs ≡ needs.unlocked }
-        ensures call { IfSome result (λ reply. (caller : ℕ) (op : Op) (given : List ℕ) → HasNeeds needs op
-            → (needs.idle ≡ true → given ≡ []) → IsCallOf caller op self.old self.new reply given) }
+        ensures call { IfSome result (λ reply. (caller : ℕ) (op : Op) (given : List ℕ)
+            → HasNeeds needs op → (needs.idle ≡ true → given ≡ [])
+            → IsCallOf caller op self.old self.new reply given) }
         ensures works { IsNone result → (caller : ℕ) (op : Op) → HasNeeds needs op
             → BeginsWork programs way_most caller op self.old self.new }
         ensures there { IsNone result → reach_refusal (self.new).found needs.reach ≡ None }
         ensures busy { IsNone result → needs.idle ≡ false }
         ensures closed { IsNone result → (self.old).erase ≡ None → self.new ≡ self.old }
         ensures paused { IsNone result → IsPaused self.old
-            → can_beside (suspend_of (self.old).found.query.extended) programs ≡ true → self.new ≡ self.old }
+            → can_beside (suspend_of (self.old).found.query.extended) programs ≡ true
+            → self.new ≡ self.old }
         ensures done { result ≡ Some DoneReply → (op : Op) → HasNeeds needs op
             → (needs.idle ≡ true) × (self.new ≡ self.old) }
-        ensures unfailed { (from to lanes : ℕ) → result ≡ Some (FailedReply from to lanes) → (op : Op)
-            → HasNeeds needs op → ⊥ }
+        ensures unfailed { (from to lanes : ℕ) → result ≡ Some (FailedReply from to lanes)
+            → (op : Op) → HasNeeds needs op → ⊥ }
     {
         if let Some(reply) = self.refused(needs) {
             return Some(reply);
@@ -193,16 +196,17 @@ impl<W: BusWord, B: Bus<W>> Bank<W, B> {
     // The same of a call whose blocks must be unlocked.
     pub(crate) fn before_change(&mut self, needs: CallNeeds) -> Option<Reply>
         requires unlocked { needs.unlocked ≡ true }
-        ensures call { IfSome result (λ reply. (caller : ℕ) (op : Op) (given : List ℕ) → HasNeeds needs op
-            → (needs.idle ≡ true → given ≡ []) → IsCallOf caller op self.old self.new reply given) }
+        ensures call { IfSome result (λ reply. (caller : ℕ) (op : Op) (given : List ℕ)
+            → HasNeeds needs op → (needs.idle ≡ true → given ≡ [])
+            → IsCallOf caller op self.old self.new reply given) }
         ensures works { IsNone result → (caller : ℕ) (op : Op) → HasNeeds needs op
             → BeginsChange (change_most self.old op) caller op self.old self.new }
         ensures there { IsNone result → reach_refusal (self.new).found needs.reach ≡ None }
         ensures busy { IsNone result → needs.idle ≡ false }
         ensures done { result ≡ Some DoneReply → (op : Op) → HasNeeds needs op
             → (needs.idle ≡ true) × (self.new ≡ self.old) }
-        ensures unfailed { (from to lanes : ℕ) → result ≡ Some (FailedReply from to lanes) → (op : Op)
-            → HasNeeds needs op → ⊥ }
+        ensures unfailed { (from to lanes : ℕ) → result ≡ Some (FailedReply from to lanes)
+            → (op : Op) → HasNeeds needs op → ⊥ }
     {
         // The bank's invariant says that its blocks are long, and so that the locks are few.
         let _found = &self.found;

@@ -23,7 +23,7 @@ use Rattle.nor_bank.specs.Ranges.{words_met}
 use Rattle.nor_bank.specs.Refused.{bank_refusal, outline, Refuses, Works}
 use Rattle.nor_bank.specs.Stands.{Stands}
 use Rattle.nor_bank.specs.State.{BankState, size_of, word_bytes}
-use Rattle.nor_bank.specs.Whole.{IsCallOf, MakesCall, may_answer}
+use Rattle.nor_bank.specs.Whole.{IsCallOf, MakesCall}
 use Rattle.nor_bank.specs.Work.{range_refusal, words_in}
 use Rattle.nor_bank.proofs.Using.{UsesBus}
 use Rattle.nor_bank.specs.declared.kept.Erasing.{Erasing}

@@ -1,5 +1,5 @@
 //! The notes of a race, whose memory is taken before the first turn.
-ghost use Rattle.std.specs.Prelude.{◌≡◌, ◌≤◌, ◌^◌, ℕ, length, All, IfOk, ◌+◌, false};
+ghost use Rattle.std.specs.Prelude.{◌≡◌, ◌≤◌, ◌^◌, length, All, IfOk, ◌+◌, false};
 ghost use Rattle.nor_array.specs.declared.entry.Op.{Op as OpOf};
 ghost use Rattle.nor_script.specs.declared.line.Word.TheVariants.{Call};
 ghost use Rattle.nor_script.specs.Answering.{lines_by};

@@ -1,5 +1,5 @@
 //! A race, from the first turn to the last.
-ghost use Rattle.std.specs.Prelude.{◌≡◌, ◌≤◌, ℕ, length, All, None, IfOk, IfErr};
+ghost use Rattle.std.specs.Prelude.{◌≡◌, ◌≤◌, length, All, None, IfOk, IfErr};
 ghost use Rattle.nor_race.specs.Places.{all_of};
 ghost use Rattle.nor_race.specs.Races.{Races};
 ghost use Rattle.nor_race.specs.Teams.{CanStart, CanRaceLines, IsTeam, notes_of};

@@ -1,5 +1,5 @@
 //! A team of workers, each of which runs its own lines.
-ghost use Rattle.std.specs.Prelude.{◌≡◌, ◌≤◌, ◌<◌, ◌+◌, ℕ, [], length, map, All, Some, None, ◌^◌};
+ghost use Rattle.std.specs.Prelude.{◌≡◌, ◌≤◌, ◌<◌, ◌+◌, [], length, All, Some, None, ◌^◌};
 ghost use Rattle.nor_race.specs.Teams.{CanRace, HasRaced, EachRaced, CanFold, CanStart, IsFirst, notes_of, total_share};
 ghost use Rattle.nor_race.specs.Laws.{KeepsTeams};
 ghost use Rattle.nor_race.specs.Places.{all_of};

@@ -1,6 +1,5 @@
 //! One worker.
-ghost use Rattle.std.specs.Prelude.{◌≡◌, ◌≤◌, ◌<◌, ◌+◌, ℕ, [], length, map, true};
-ghost use Rattle.nor_array.specs.declared.entry.Op.{Op as OpOf};
+ghost use Rattle.std.specs.Prelude.{◌≡◌, ◌≤◌, ◌<◌, ◌+◌, [], length, map, true};
 ghost use Rattle.nor_driver.specs.Callers.{IsCallerOf, Called, WentOn};
 ghost use Rattle.nor_run.specs.Built.{is_built_call};
 ghost use Rattle.nor_race.specs.Ran.{answer_of, RoomFor, IsFor, AreFor, RanTo, RunsLine};
@@ -10,7 +9,7 @@ use crate::note::Note;
 use nor_array::Op;
 use nor_bank::MAX_LEN;
 use nor_bus::Bus;
-use nor_driver::{Answer, Caller, Driver};
+use nor_driver::{Caller, Driver};
 use nor_script::{Line, Word};
 use nor_word::BusWord;
 use std::sync::Wait;

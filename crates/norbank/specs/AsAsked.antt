@@ -26,22 +26,27 @@ IsDone command was now before after status =
     ⊎ (((status ≡ fault_told) × (Rose was.faults now.faults ⊎ Rose before.faults after.faults))
     ⊎ (status ≡ lacks_memory))
 
--- The command ends as it is asked for, each status with its text. Status 0 means that all was done, and 6 that the
--- bank halted in it. Where nothing is wrong all is done, unless a fault or want of memory comes between. Status 7
--- comes only where a count of faults rose. Where it wasn't done, the sink has taken a first part of what would have
--- been put, and why it wasn't. Only a script changes files, and only with status 0 or 6.
-pub record EndsAsAsked (command : Asked) (was now : ShelfState) (before after : SinkState) (status : ℕ) : Type 0 where
+-- The command ends as it is asked for, each status with its text. Status 0 means that all was done,
+-- and 6 that the bank halted in it. Where nothing is wrong all is done, unless a fault or want of
+-- memory comes between. Status 7 comes only where a count of faults rose. Where it wasn't done, the
+-- sink has taken a first part of what would have been put, and why it wasn't. Only a script changes
+-- files, and only with status 0 or 6.
+pub record EndsAsAsked (command : Asked) (was now : ShelfState) (before after : SinkState)
+    (status : ℕ) : Type 0 where
   pub ends : Ends command was now before after status
   pub usage : command ≡ Unknown → Says (status_of Usage) usage before after status
   pub unbuilt : command ≡ Drill → Says (status_of NotBuilt) not_built before after status
   pub printed : (image : List ℕ) (at len : ℕ) → command ≡ Read image at len → status ≡ all_done
       → PrintsImage was.files image at len before after
-  pub shown : (image : List ℕ) → command ≡ Show image → status ≡ all_done → ShowsImage was.files image before after
+  pub shown : (image : List ℕ) → command ≡ Show image → status ≡ all_done
+      → ShowsImage was.files image before after
   pub ran : (race : Bool) (image name : List ℕ) → command ≡ Script race image name → IsRun status
       → RanImage race image name was now before after status
-  pub halted : (race : Bool) (image name : List ℕ) → command ≡ Script race image name → status ≡ bank_halted
+  pub halted : (race : Bool) (image name : List ℕ) → command ≡ Script race image name
+      → status ≡ bank_halted
       → MayHaltImage race image name was.files
-  pub part : status ≢ all_done → status ≢ bank_halted → PutsPart command was.files before after status
+  pub part : status ≢ all_done → status ≢ bank_halted
+      → PutsPart command was.files before after status
   pub complete : (files : FileMap) → was.files ≡ Some files
       → stop_of command (files (name_of command Bank)) (files (name_of command ScriptFile)) ≡ None
       → IsDone command was now before after status

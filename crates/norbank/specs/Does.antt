@@ -1,4 +1,5 @@
--- What a command does before its last text, and with what it ends: what was done, or what stopped it.
+-- What a command does before its last text, and with what it ends: what was done, or what stopped
+-- it.
 use Rattle.std.specs.Prelude.{◌≡◌, ◌≤◌, ◌⊎◌, ℕ, List, Bool, true, false, Option, Some, None, Result, Ok, Err}
 use Rattle.nor_cell.specs.Chip.{ChipState}
 use Rattle.nor_bus.specs.Bus.{BusState, bank_bytes}
@@ -46,7 +47,8 @@ NamesFile Drill = ⊥
 NamesFile Unknown = ⊥
 NamesFile _ = Unit {0}
 
--- A file couldn't be read, which the shelf's count tells: that of the bank, or behind it the script's.
+-- A file couldn't be read, which the shelf's count tells: that of the bank, or behind it the
+-- script's.
 abbrev pub FailsRead : Option (List ℕ) → (was now : ShelfState) → Stop → Type 0
 FailsRead bank was now stop =
     ((stop ≡ ReadFault Bank) ⊎ ((stop ≡ ReadFault ScriptFile) × (file_stop Bank bank ≡ None)))
@@ -57,9 +59,10 @@ pub record IsWant (command : Asked) (stop : Stop) : Type 0 where
   pub status : status_of stop ≡ lacks_memory
   pub text : text_of command stop ≡ no_memory
 
--- It stops as the first thing says that is wrong in the order of work; or, where it names a file, as one can't be
--- read, or for want of memory. Nothing was put, and no file has changed.
-pub record Stops (command : Asked) (was now : ShelfState) (before after : SinkState) (stop : Stop) : Type 0 where
+-- It stops as the first thing says that is wrong in the order of work; or, where it names a file,
+-- as one can't be read, or for want of memory. Nothing was put, and no file has changed.
+pub record Stops (command : Asked) (was now : ShelfState) (before after : SinkState) (stop : Stop)
+    : Type 0 where
   pub names : Names command was.files
   pub cause : (stop_of command names.bank names.script ≡ Some stop)
       ⊎ (NamesFile command × (FailsRead names.bank was now stop ⊎ IsWant command stop))
@@ -93,12 +96,13 @@ fresh_bus chips = record { lanes = chips; power = true; armed = None; cycles = 0
 abbrev pub bus_in : List ℕ → BusState
 bus_in file = fresh_bus (chips_of_file file)
 
--- The bank was saved under its name; or it wasn't, which the shelf's count tells, or for want of memory, and no file
--- has changed.
+-- The bank was saved under its name; or it wasn't, which the shelf's count tells, or for want of
+-- memory, and no file has changed.
 abbrev pub Saved : (name saved : List ℕ) → Ran → (was now : ShelfState) → Result Done Stop → Type 0
 Saved name saved ran was now result =
     ((result ≡ Ok (done_of ran.halted)) × Saves was.files name saved now.files)
-    ⊎ ((now.files ≡ was.files) × (((result ≡ Err WriteFault) × Rose was.faults now.faults) ⊎ (result ≡ Err NoMemory)))
+    ⊎ ((now.files ≡ was.files)
+    × (((result ≡ Err WriteFault) × Rose was.faults now.faults) ⊎ (result ≡ Err NoMemory)))
 
 -- a bank whose tables begin with `QRY` halted only by what may halt it
 abbrev pub IsCaused : (lines : List Line) → BusState → Ran → Type 0
@@ -113,7 +117,8 @@ pub record RunsWhole (race : Bool) (name file : List ℕ) (lines : List Line) (w
   pub caused : IsCaused lines (bus_in file) ran
   pub saves : Saved name saved ran was now result
 
--- It wasn't put whole, which the sink's count tells, or for want of memory; and no file has changed.
+-- It wasn't put whole, which the sink's count tells, or for want of memory; and no file has
+-- changed.
 pub record RunsPart (race : Bool) (file : List ℕ) (lines : List Line) (was now : ShelfState)
     (before after : SinkState) (result : Result Done Stop) : Type 0 where
   pub error : SinkError
@@ -133,10 +138,12 @@ pub record RunsScript (race : Bool) (name file text : List ℕ) (was now : Shelf
       ⊎ RunsPart race file lines was now before after result
 
 -- What is asked for was done on the bank of a file, as far as the output took it.
-abbrev pub Answers : Asked → (file text : List ℕ) → (was now : ShelfState) → (before after : SinkState)
+abbrev pub Answers : Asked → (file text : List ℕ) → (was now : ShelfState)
+    → (before after : SinkState)
     → Result Done Stop → Type 0
 Answers (Read image at len) file text was now before after result =
-    Prints (hex_line (bank_bytes (device_of file) (chips_of_file file) at len)) was now before after result
+    Prints (hex_line (bank_bytes (device_of file) (chips_of_file file) at len)) was now
+    before after result
 Answers (Show image) file text was now before after result =
     (found : Found) × IsFoundOn (width_of file) (chips_of_file file) found
     × Prints (found_lines (width_of file) found) was now before after result
@@ -150,21 +157,25 @@ pub record Works (command : Asked) (was now : ShelfState) (before after : SinkSt
     (result : Result Done Stop) : Type 0 where
   pub names : Names command was.files
   pub free : stop_of command names.bank names.script ≡ None
-  pub answers : Answers command (bytes_in names.bank) (bytes_in names.script) was now before after result
+  pub answers : Answers command (bytes_in names.bank) (bytes_in names.script) was now
+      before after result
 
 -- it stopped before it put anything
-abbrev pub StopsWith : Asked → (was now : ShelfState) → (before after : SinkState) → Result Done Stop → Type 0
+abbrev pub StopsWith : Asked → (was now : ShelfState) → (before after : SinkState)
+    → Result Done Stop → Type 0
 StopsWith command was now before after (Ok done) = ⊥
 StopsWith command was now before after (Err stop) = Stops command was now before after stop
 
-abbrev pub Does : Asked → (was now : ShelfState) → (before after : SinkState) → Result Done Stop → Type 0
+abbrev pub Does : Asked → (was now : ShelfState) → (before after : SinkState) → Result Done Stop
+    → Type 0
 Does command was now before after result =
     StopsWith command was now before after result ⊎ Works command was now before after result
 
 -- ---- how it ends
 
 -- A command does what is asked for, and then tells what stopped it.
-pub record Ends (command : Asked) (was now : ShelfState) (before after : SinkState) (status : ℕ) : Type 0 where
+pub record Ends (command : Asked) (was now : ShelfState) (before after : SinkState) (status : ℕ)
+    : Type 0 where
   pub result : Result Done Stop
   pub mid : SinkState
   pub does : Does command was now before mid result

@@ -23,15 +23,18 @@ pub record IsAccepted (file : List ℕ) : Type 0 where
   pub accepted : refusal (width_of file) (chips_of_file file) ≡ None
 
 -- The file under a name stands for a bank that probing accepts, and its bytes were printed.
-pub record PrintsImage (told : Option FileMap) (name : List ℕ) (at len : ℕ) (before after : SinkState) : Type 0 where
+pub record PrintsImage (told : Option FileMap) (name : List ℕ) (at len : ℕ)
+    (before after : SinkState) : Type 0 where
   pub file : List ℕ
   pub is_found : IsFound told name (Some file)
   pub accepted : IsAccepted file
   pub within : at + len ≤ bank_size (chips_of_file file)
-  pub text : Appends before.taken (hex_line (bank_bytes (device_of file) (chips_of_file file) at len)) after.taken
+  pub text : Appends before.taken
+      (hex_line (bank_bytes (device_of file) (chips_of_file file) at len)) after.taken
 
 -- The same, and it was printed what the bank is.
-pub record ShowsImage (told : Option FileMap) (name : List ℕ) (before after : SinkState) : Type 0 where
+pub record ShowsImage (told : Option FileMap) (name : List ℕ) (before after : SinkState)
+    : Type 0 where
   pub file : List ℕ
   pub is_found : IsFound told name (Some file)
   pub accepted : IsAccepted file
@@ -39,10 +42,11 @@ pub record ShowsImage (told : Option FileMap) (name : List ℕ) (before after : 
   pub is : IsFoundOn (width_of file) (chips_of_file file) found
   pub text : Appends before.taken (found_lines (width_of file) found) after.taken
 
--- The script under one name was run on the bank of the file under the other, in which nothing is wrong. The sink has
--- taken the report of entries that answer the script, and the bank was saved under its name. Where the bank's tables
--- begin with `QRY`, the entries are a legal history from the opening array, the bank stands for the array after it,
--- whose bytes its cells are, and it halted only by what may halt it.
+-- The script under one name was run on the bank of the file under the other, in which nothing is
+-- wrong. The sink has taken the report of entries that answer the script, and the bank was saved
+-- under its name. Where the bank's tables begin with `QRY`, the entries are a legal history from
+-- the opening array, the bank stands for the array after it, whose bytes its cells are, and it
+-- halted only by what may halt it.
 pub record RanImage (race : Bool) (name script_name : List ℕ) (was now : ShelfState)
     (before after : SinkState) (status : ℕ) : Type 0 where
   pub file : List ℕ
@@ -61,9 +65,10 @@ pub record RanImage (race : Bool) (name script_name : List ℕ) (was now : Shelf
   pub caused : IsCaused lines (bus_in file) ran
   pub saves : Saves was.files name saved now.files
 
--- The script under one name has lines that may halt the bank of the file under the other, or one of its chips never
--- ends its work; or not all of its tables begin with `QRY`.
-pub record MayHaltImage (race : Bool) (name script_name : List ℕ) (told : Option FileMap) : Type 0 where
+-- The script under one name has lines that may halt the bank of the file under the other, or one of
+-- its chips never ends its work; or not all of its tables begin with `QRY`.
+pub record MayHaltImage (race : Bool) (name script_name : List ℕ) (told : Option FileMap)
+    : Type 0 where
   pub file : List ℕ
   pub is_file : IsFound told name (Some file)
   pub text : List ℕ

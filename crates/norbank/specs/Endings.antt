@@ -98,12 +98,13 @@ done_of false = All
 
 -- ---- the last text
 
--- A text was put with a status; or the output failed, which its count tells, or lacked memory, and then a first part
--- was.
+-- A text was put with a status; or the output failed, which its count tells, or lacked memory, and
+-- then a first part was.
 abbrev pub Says : ℕ → List ℕ → (before after : SinkState) → ℕ → Type 0
 Says code text before after status =
     ((status ≡ code) × Appends before.taken text after.taken)
-    ⊎ (((status ≡ fault_told) × Rose before.faults after.faults × AppendsPart before.taken text after.taken)
+    ⊎ (((status ≡ fault_told) × Rose before.faults after.faults
+    × AppendsPart before.taken text after.taken)
     ⊎ ((status ≡ lacks_memory) × AppendsPart before.taken text after.taken))
 
 -- only why a bank isn't found takes memory to tell
@@ -111,7 +112,8 @@ abbrev pub TakesMemory : Stop → Type 0
 TakesMemory (Unfound error) = Unit {0}
 TakesMemory _ = ⊥
 
--- What stopped the command was told, or want of memory in its place. Where all was done nothing more was put.
+-- What stopped the command was told, or want of memory in its place. Where all was done nothing
+-- more was put.
 abbrev pub Tells : Asked → Result Done Stop → (before after : SinkState) → ℕ → Type 0
 Tells command (Ok done) before after status = (status ≡ done_status done) × (after ≡ before)
 Tells command (Err stop) before after status =

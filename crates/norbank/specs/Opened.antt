@@ -38,7 +38,8 @@ pub record IsLoadedAs (told : Option FileMap) (name file : List ℕ) : Type 0 wh
   pub few : length file ≤ 2 ^ 30
 
 -- It wasn't loaded: the shelf hasn't got it so, or couldn't read it, or memory ran out.
-pub record FailsLoad (which : File) (name : List ℕ) (was now : ShelfState) (stop : Stop) : Type 0 where
+pub record FailsLoad (which : File) (name : List ℕ) (was now : ShelfState) (stop : Stop)
+    : Type 0 where
   pub found : Option (List ℕ)
   pub is_found : IsFound was.files name found
   pub cause : (file_stop which found ≡ Some stop)
@@ -70,12 +71,14 @@ pub record FailsOpen (name : List ℕ) (was now : ShelfState) (stop : Stop) : Ty
   pub found : Option (List ℕ)
   pub is_found : IsFound was.files name found
   pub cause : (first_some (opening_stops found) ≡ Some stop)
-      ⊎ (((stop ≡ ReadFault Bank) × Rose was.faults now.faults) ⊎ ((command : Asked) → IsWant command stop))
+      ⊎ (((stop ≡ ReadFault Bank) × Rose was.faults now.faults)
+      ⊎ ((command : Asked) → IsWant command stop))
 
 -- ---- what comes of a bank that was opened
 
 -- it stops with the first of these, before anything was put
-pub record StopsBy (stops : List (Option Stop)) (before after : SinkState) (result : Result Done Stop) : Type 0 where
+pub record StopsBy (stops : List (Option Stop)) (before after : SinkState)
+    (result : Result Done Stop) : Type 0 where
   pub stop : Stop
   pub is : result ≡ Err stop
   pub first : first_some stops ≡ Some stop
@@ -94,8 +97,8 @@ abbrev pub ReadEnds : ℕ → Device → List ChipState → (at len : ℕ) → (
     → Result Done Stop → Type 0
 ReadEnds width device chips at len before after result =
     StopsBy (probe_stop width chips ∷ range_stop chips at len ∷ []) before after result
-    ⊎ PutsFree (probe_stop width chips ∷ range_stop chips at len ∷ []) (hex_line (bank_bytes device chips at len))
-    before after result
+    ⊎ PutsFree (probe_stop width chips ∷ range_stop chips at len ∷ [])
+    (hex_line (bank_bytes device chips at len)) before after result
 
 -- Bytes of such a bank were read.
 pub record ReadsBank (width : ℕ) (device : Device) (chips : List ChipState) (at len : ℕ)
@@ -121,9 +124,11 @@ pub record ShowsBank (width : ℕ) (chips : List ChipState) (before after : Sink
 
 -- ---- the bank and the script that a run or a race begins with
 
--- The bank was just loaded from the file under one name, there is room for its file, running is built for it and for
--- the lines of the script, and those are what the text under the other name says.
-pub record IsJob (race : Bool) (told : Option FileMap) (name script_name : List ℕ) (job : Job) : Type 0 where
+-- The bank was just loaded from the file under one name, there is room for its file, running is
+-- built for it and for the lines of the script, and those are what the text under the other name
+-- says.
+pub record IsJob (race : Bool) (told : Option FileMap) (name script_name : List ℕ) (job : Job)
+    : Type 0 where
   pub file : List ℕ
   pub is_file : IsLoadedAs told name file
   pub text : List ℕ
@@ -137,7 +142,8 @@ pub record IsJob (race : Bool) (told : Option FileMap) (name script_name : List 
   pub script : IsScript job.script
 
 -- No run or race begins.
-pub record FailsJob (race : Bool) (name script_name : List ℕ) (was now : ShelfState) (stop : Stop) : Type 0 where
+pub record FailsJob (race : Bool) (name script_name : List ℕ) (was now : ShelfState) (stop : Stop)
+    : Type 0 where
   pub names : Names (Script race name script_name) was.files
   pub cause : (stop_of (Script race name script_name) names.bank names.script ≡ Some stop)
       ⊎ (FailsRead names.bank was now stop ⊎ IsWant (Script race name script_name) stop)

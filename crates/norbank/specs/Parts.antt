@@ -17,8 +17,9 @@ use Rattle.norbank.specs.Text.{hex_line}
 use Rattle.norbank.specs.Words.{Asked, Read, Show, Script, Drill, Unknown}
 use Rattle.norbank.specs.declared.stop.Stop.{Stop}
 
--- The text is what there is to put of entries that answer the first lines of a script, in a race all of them, on the
--- bank of a file: the lines of these entries, or, where all lines were run, the whole report.
+-- The text is what there is to put of entries that answer the first lines of a script, in a race
+-- all of them, on the bank of a file: the lines of these entries, or, where all lines were run, the
+-- whole report.
 pub record IsReport (race : Bool) (file script whole : List ℕ) : Type 0 where
   pub lines : List Line
   pub is_script : script_of race script ≡ Ok lines
@@ -34,7 +35,8 @@ abbrev pub IsOutput : Asked → (file script whole : List ℕ) → Type 0
 IsOutput (Read image at len) file script whole =
     whole ≡ hex_line (bank_bytes (device_of file) (chips_of_file file) at len)
 IsOutput (Show image) file script whole =
-    (found : Found) × IsFoundOn (width_of file) (chips_of_file file) found × (whole ≡ found_lines (width_of file) found)
+    (found : Found) × IsFoundOn (width_of file) (chips_of_file file) found
+    × (whole ≡ found_lines (width_of file) found)
 IsOutput (Script race image name) file script whole = IsReport race file script whole
 IsOutput Drill file script whole = ⊥
 IsOutput Unknown file script whole = ⊥
@@ -46,9 +48,11 @@ pub record Begins (command : Asked) (file script : List ℕ) (before after : Sin
   pub part : AppendsPart before.taken whole after.taken
 
 -- Nothing was put of what the command puts, or a first part; and then why it wasn't done.
-pub record PutsPart (command : Asked) (told : Option FileMap) (before after : SinkState) (status : ℕ) : Type 0 where
+pub record PutsPart (command : Asked) (told : Option FileMap) (before after : SinkState)
+    (status : ℕ) : Type 0 where
   pub names : Names command told
   pub mid : SinkState
-  pub begun : Untouched before mid ⊎ Begins command (bytes_in names.bank) (bytes_in names.script) before mid
+  pub begun : Untouched before mid
+      ⊎ Begins command (bytes_in names.bank) (bytes_in names.script) before mid
   pub stop : Stop
   pub ended : Says (status_of stop) (text_of command stop) mid after status

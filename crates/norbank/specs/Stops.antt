@@ -1,4 +1,5 @@
--- What stops a command, in the order of its work, by its words and the bytes of the files that they name.
+-- What stops a command, in the order of its work, by its words and the bytes of the files that they
+-- name.
 use Rattle.std.specs.Prelude.{◌^◌, ◌+◌, ℕ, List, [], ◌∷◌, ◌++◌, zero, suc, length, Bool, false, not, if◌then◌else◌, nat_lt, Option, Some, None, Result, Ok, Err}
 use Rattle.std.specs.Option.{option_map}
 use Rattle.nor_cell.specs.Chip.{ChipState}

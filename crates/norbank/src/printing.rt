@@ -1,4 +1,4 @@
-ghost use Rattle.std.specs.Prelude.{◌≡◌, ◌<◌, ◌≤◌, ◌+◌, ◌*◌, ◌^◌, ℕ, List, length, codes};
+ghost use Rattle.std.specs.Prelude.{◌≡◌, ◌<◌, ◌≤◌, ◌+◌, ◌*◌, ◌^◌, length};
 ghost use Rattle.hex.specs.Hex.{encode_lower};
 ghost use Rattle.nor_cell.specs.declared.device.Device.{Device};
 ghost use Rattle.nor_bus.specs.Bus.{IsBank, units_of, bank_bytes};

@@ -1,8 +1,6 @@
 use Rattle.std.proofs.Common.{◌≢◌}
 use Rattle.nor_bank.proofs.Padding.{some_byte}
 use Rattle.nor_bank.proofs.PiecesRead.{reads_none, reads_some}
-use Rattle.nor_bank.proofs.PiecesKept.{so_next}
-use Rattle.nor_bank.proofs.PiecesCall.{program_answers}
 use Rattle.nor_bank.proofs.pieces.changed_word.Goals as goal
 
 pub returns-then-equals-clause-tells : goal.returns-then-equals-clause-tells

@@ -5,7 +5,7 @@ use Rattle.nor_poll.specs.Buffer.{LoadHalts, load_most}
 use Rattle.nor_poll.specs.Word.{WordHalts, word_most}
 use Rattle.nor_bank.specs.Pieces.{EndsPiece, HaltsPiece, word_cost_in}
 use Rattle.nor_bank.proofs.Padding.{some_byte}
-use Rattle.nor_bank.proofs.PiecesProgrammed.{first_alone, first_taken, one_ends, one_halts, several_counted, several_end, several_halt}
+use Rattle.nor_bank.proofs.PiecesProgrammed.{few_lanes, first_alone, first_taken, one_ends, one_halts, several_counted, several_end, several_halt}
 use Rattle.nor_bank.proofs.pieces.program_piece.Goals as goal
 
 -- ---- a word alone
@@ -81,7 +81,8 @@ returns-clause-counted g c =
     let r = c.program_buffer.result in
     subst (λ (k : ℕ). OnOk r (Counted k (k * word_cost_in f) old now)) long
     (several_counted g.W.BusWord.WIDTH f c.args.piece.first m (map g.W.BusWord.bytes (take n xs)) (map g.W.BusWord.bytes xs) old now
-    (some_byte g.W.BusWord.WIDTH g.met.W.BusWord.sized) (omega (arith, long, some, apart)) (first_taken g.W.BusWord.bytes g.met.W.BusWord.small xs n fits) r
+    (some_byte g.W.BusWord.WIDTH g.met.W.BusWord.sized) (omega (arith, long, some, apart)) (first_taken g.W.BusWord.bytes g.met.W.BusWord.small xs n fits)
+    (c.requires.buffered (omega (arith, some, apart))) r
     (subst (λ (l : ℕ). OnOk r (Counted (m + 6) (load_most f.query.set m l) old now)) c.limit-limit-2.ensures.value c.program_buffer.ensures.cycles))
 
 pub returns-clause-halts : goal.returns-clause-halts
@@ -101,5 +102,14 @@ returns-clause-halts g c =
     let r = c.program_buffer.result in
     subst (λ (k : ℕ). IfErr r (λ halt. HaltsPiece g.W.BusWord.WIDTH f c.args.piece.first k (map g.W.BusWord.bytes xs) halt old now)) long
     (several_halt g.W.BusWord.WIDTH f c.args.piece.first m (map g.W.BusWord.bytes (take n xs)) (map g.W.BusWord.bytes xs) old now
-    (some_byte g.W.BusWord.WIDTH g.met.W.BusWord.sized) (omega (arith, long, some, apart)) (first_taken g.W.BusWord.bytes g.met.W.BusWord.small xs n fits) r
+    (some_byte g.W.BusWord.WIDTH g.met.W.BusWord.sized) (omega (arith, long, some, apart)) (first_taken g.W.BusWord.bytes g.met.W.BusWord.small xs n fits)
+    (c.requires.buffered (omega (arith, some, apart))) r
     (subst (λ (l : ℕ). IfErr r (LoadHalts f.query.set g.W.BusWord.WIDTH f.geometry c.args.piece.first (map g.W.BusWord.bytes (take n xs)) l old now)) c.limit-limit-2.ensures.value c.program_buffer.ensures.halts))
+
+-- ---- the lanes that broke off
+
+pub returns-then-piece-eq1-clause-few : goal.returns-then-piece-eq1-clause-few
+returns-then-piece-eq1-clause-few g c = few_lanes c.program_word.result c.args.found.now.geometry.lanes _ (λ lanes are. are.past) c.program_word.ensures.broken
+
+pub returns-clause-few : goal.returns-clause-few
+returns-clause-few g c = few_lanes c.program_buffer.result c.args.found.now.geometry.lanes _ (λ lanes are. are.past) c.program_buffer.ensures.broken

@@ -1,11 +1,10 @@
-use Rattle.std.proofs.Common.{◌≡◌, ◌<◌, ◌≤◌, ◌+◌, ◌-◌, ◌*◌, ◌/◌, ℕ, length, map, refl, sym, ap, subst, ◌∙◌, arith, Bool, true, false, is_some}
+use Rattle.std.proofs.Common.{◌≤◌, ◌+◌, ◌-◌, ◌/◌, ℕ, length, map, refl, ap, ◌∙◌, arith, Bool}
 use Rattle.nor_cell.proofs.Logic.{quotient_rises}
 use Rattle.nor_bank.specs.Pieces.{due_in}
 use Rattle.nor_bank.proofs.Padding.{some_byte}
 use Rattle.nor_bank.proofs.PiecesEnds.{read_leaves, read_lost, so_none}
 use Rattle.nor_bank.proofs.PiecesKept.{Keeps, Passed, kept_size, so_next}
 use Rattle.nor_bank.proofs.PiecesStops.{ends_becomes, ends_cost, ends_run, ends_takes, ends_there, in_range_of, stops_becomes, stops_run, stops_takes, stops_there}
-use Rattle.nor_bank.proofs.Ranging.{after_first, before_last}
 use Rattle.nor_bank.proofs.WordByWord.{goes_so, of_range, stops_so}
 use Rattle.nor_bank.proofs.pieces.program_range.Goals as goal
 
@@ -26,7 +25,7 @@ program_waiting-requires g c =
     let few = c.loop-u.invariant.so.few in
     let within = c.due_words-due.ensures.within in
     let compact = g.met.W.BusWord.compact in
-    (omega (arith, compact), (c.requires.wiring, (omega (arith, order, within), omega (arith, few, within))))
+    (omega (arith, compact), (c.requires.wiring, (omega (arith, order, within), (omega (arith, few, within), λ several. c.loop-u.invariant.so.buffered (omega (arith, several, within))))))
 
 pub program_waiting-requires-2 : goal.program_waiting-requires-2
 program_waiting-requires-2 g c =
@@ -38,7 +37,7 @@ program_waiting-requires-2 g c =
     let rises = quotient_rises c.args.at (c.args.at + (length c.args.new.now - 1)) g.W.BusWord.WIDTH (some_byte g.W.BusWord.WIDTH g.met.W.BusWord.sized) (omega arith) in
     let near = c.loop-u.auto.u-end (omega (arith, first, last, rises)) in
     let compact = g.met.W.BusWord.compact in
-    (omega (arith, compact), (c.requires.wiring, (omega (arith, order, near), omega (arith, few))))
+    (omega (arith, compact), (c.requires.wiring, (omega (arith, order, near), (omega (arith, few), c.loop-u.invariant.so.buffered))))
 
 -- ---- a word couldn't be read
 

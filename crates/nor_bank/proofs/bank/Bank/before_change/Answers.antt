@@ -1,4 +1,5 @@
-use Rattle.std.proofs.Common.{◌<◌, refl, ap, subst, sym, ◌∙◌}
+use Rattle.std.proofs.Common.{◌<◌, ℕ, refl, subst, sym, ◌∙◌, IfSome, Option}
+use Rattle.nor_bank.specs.Locks.{HasReadLock}
 use Rattle.nor_bank.specs.State.{BankState, HasLongBlocks, word_bytes}
 use Rattle.nor_bank.proofs.HaltingLocks.{begins_change, locked_answer, locks_lost_answer, still_there, some_width}
 use Rattle.nor_bank.proofs.bank.Bank.before_change.Goals as goal
@@ -24,6 +25,7 @@ returns-in-Ok-Some-clause-call g c = λ caller op given has empty.
     (some_width g.W.BusWord.WIDTH c.self.inside.found.geometry.lanes c.self.inside.found.geometry.device c.self.invariant.wiring))
     (c.in_default.ensures.works refl caller op has) c.in-Ok-Some.block given c.in-Ok-Some.ensures.reads
     (λ a shows. sym c.in-Ok-Some.field-0-is ∙ c.in-Ok-Some.ensures.lowest a shows)
+    (subst (λ (o : Option ℕ). IfSome o (HasReadLock c.before_work.new.self c.args.needs.reach)) c.in-Ok-Some.field-0-is c.in-Ok-Some.ensures.found)
 
 pub returns-in-Err-clause-call : goal.returns-in-Err-clause-call
 returns-in-Err-clause-call g c = λ caller op given has empty.

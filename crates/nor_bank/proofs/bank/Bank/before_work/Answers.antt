@@ -1,4 +1,4 @@
-use Rattle.std.proofs.Common.{sym, subst, Bool, ◌∙◌}
+use Rattle.std.proofs.Common.{subst, Bool}
 use Rattle.nor_bank.specs.Way.{ClearsWay}
 use Rattle.nor_bank.proofs.Halting.{never_done, never_failed, idle_answer, begins_answer, waits_answer, halts_answer, there_answer}
 use Rattle.nor_bank.proofs.bank.Bank.before_work.Goals as goal

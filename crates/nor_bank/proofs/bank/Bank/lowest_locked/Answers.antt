@@ -1,9 +1,9 @@
-use Rattle.std.proofs.Common.{◌≡◌, ◌∙◌, sym, ap, arith, true, false}
+use Rattle.std.proofs.Common.{◌∙◌, sym, ap, arith}
 use Rattle.nor_query.specs.Derived.{locks_of}
 use Rattle.nor_cell.proofs.Logic.{if_gave}
 use Rattle.nor_bank.specs.Locks.{LosesLocks, locks_most}
 use Rattle.nor_bank.specs.State.{BankState}
-use Rattle.nor_bank.proofs.LocksSearching.{SearchesIn, none_offered, unlocked_none, unlocked_more, search_there, search_offers, search_lost, search_found, found_lowest, search_over, over_lowest}
+use Rattle.nor_bank.proofs.LocksSearching.{SearchesIn, none_offered, unlocked_none, unlocked_more, search_there, search_offers, search_lost, search_found, found_read, found_lowest, search_over, over_lowest}
 use Rattle.nor_bank.proofs.bank.Bank.lowest_locked.Goals as goal
 
 pub returns-then-not-has_locks-clause-lowest : goal.returns-then-not-has_locks-clause-lowest
@@ -60,6 +60,17 @@ returns-then-branch-clause-lowest g c =
     } in
     found_lowest old c.args.reach c.touched-first.result.0 c.touched-first.result.1 is c.loop-block.block c.loop-block.self c.loop-block.invariant
     c.loop-block.auto.block c.loop-block-test.true (λ a shows. sym c.if-branch.true ∙ c.in_ok-reads_locked.ensures.locked a shows)
+
+pub returns-then-branch-clause-found : goal.returns-then-branch-clause-found
+returns-then-branch-clause-found g c =
+    let old = c.args.self.now in
+    let is : SearchesIn old c.args.reach c.touched-first.result.0 c.touched-first.result.1 = record {
+      offers = sym (ap (λ (b : BankState). locks_of b.found.query.extended) c.self.view_is) ∙ sym c.if-not-has_locks.ensures.value;
+      there = c.touched-first.ensures.there;
+      touched = c.touched-first.ensures.touches;
+      count = c.touched-first.ensures.count;
+    } in
+    found_read old c.args.reach c.touched-first.result.0 c.touched-first.result.1 is c.loop-block.block c.loop-block.self c.loop-block.invariant c.loop-block.auto.block c.loop-block-test.true
 
 pub returns-then-branch-clause-reads : goal.returns-then-branch-clause-reads
 returns-then-branch-clause-reads g c =

@@ -1,6 +1,6 @@
 use Rattle.std.proofs.Common.{◌≡◌, sym, ap, subst, ◌∙◌, Some}
 use Rattle.nor_array.specs.declared.entry.Halted.{Halted as HaltCause}
-use Rattle.nor_array.specs.declared.entry.Halted.TheVariants.{Off, Stuck}
+use Rattle.nor_array.specs.declared.entry.Halted.TheVariants.{Off}
 use Rattle.nor_array.specs.declared.entry.Reply.TheVariants.{Halted}
 use Rattle.nor_bank.specs.State.{BankState}
 use Rattle.nor_bank.specs.Whole.{PowersBank}

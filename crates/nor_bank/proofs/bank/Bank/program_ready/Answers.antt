@@ -1,11 +1,8 @@
-use Rattle.std.proofs.Common.{◌≡◌, ℕ, refl, sym, ap, subst, ◌∙◌, arith, Some}
-use Rattle.nor_bus.specs.Bus.{BusState}
+use Rattle.std.proofs.Common.{refl, ap, ◌∙◌, arith, Some}
 use Rattle.nor_array.specs.declared.entry.Reply.{Reply}
 use Rattle.nor_array.specs.declared.entry.Reply.TheVariants.{Halted}
-use Rattle.nor_poll.specs.declared.lanes.Halt.{Halt}
-use Rattle.nor_bank.specs.Pieces.{AnswersRange, ProgramsBank, ProgramsRange, least_limit, word_cost_in}
-use Rattle.nor_bank.specs.Programs.{Takes}
-use Rattle.nor_bank.specs.Ranges.{words_met}
+use Rattle.nor_bank.specs.Pieces.{ProgramsBank, ProgramsRange}
+use Rattle.nor_bank.specs.Runs.{least_limit}
 use Rattle.nor_bank.specs.State.{BankState}
 use Rattle.nor_bank.specs.Way.{cause_of, halting}
 use Rattle.nor_bank.specs.Work.{with_bus}
@@ -54,7 +51,7 @@ returns-in-Skipped g c =
     } in
     let is = c.program_range.ensures in
     let programs : ProgramsRange w c.args.at c.args.from.now shape.found c.program_range.result shape.bus now =
-    record { becomes = is.becomes; takes = is.takes; costs = is.costs; there = is.there; run = is.run } in
+    record { becomes = is.becomes; takes = is.takes; costs = is.costs; there = is.there; named = is.named; run = is.run } in
     programs_bank w c.args.at c.args.from.now shape c.args.self.now (with_bus shape now) c.program_range.result now _ (wide_is w c.self.inside.found c.self.invariant.wiring) c.self.view_is programs
     (stored_answers w c.args.at _ c.program_range.result shape now c.in-Skipped.is)
 
@@ -72,7 +69,7 @@ returns-in-BrokeOff g c =
     let is = c.in-BrokeOff.ensures in
     let outcome : Outcome = BrokeOff c.in-BrokeOff.piece c.in-BrokeOff.lanes in
     let programs : ProgramsRange w c.args.at c.args.from.now shape.found outcome shape.bus now =
-    record { becomes = is.becomes; takes = is.takes; costs = is.costs; there = is.there; run = is.run } in
+    record { becomes = is.becomes; takes = is.takes; costs = is.costs; there = is.there; named = is.named; run = is.run } in
     programs_bank w c.args.at c.args.from.now shape c.args.self.now (with_bus shape now) outcome now c.failed.result (wide_is w c.self.inside.found c.self.invariant.wiring) c.self.view_is programs
     (c.failed.ensures, refl)
 
@@ -92,7 +89,7 @@ returns-in-GivenUp g c =
     let outcome : Outcome = GivenUp halt in
     let cause = cause_of c.self.inside.after halt in
     let programs : ProgramsRange w c.args.at c.args.from.now shape.found outcome shape.bus now =
-    record { becomes = is.becomes; takes = is.takes; costs = is.costs; there = is.there; run = is.run } in
+    record { becomes = is.becomes; takes = is.takes; costs = is.costs; there = is.there; named = is.named; run = is.run } in
     kept_halt (λ (b : BankState) (reply : Reply). ProgramsBank c.args.at c.args.from.now c.args.self.now b reply) shape now cause c.keep_halt.new.halted c.keep_halt.new.erase c.keep_halt.result
     (c.keep_halt.ensures.halted ∙ ap Some c.cause_of-cause.ensures) c.keep_halt.ensures.erase (c.keep_halt.ensures.reply ∙ ap Halted c.cause_of-cause.ensures)
     (programs_bank w c.args.at c.args.from.now shape c.args.self.now (halting (with_bus shape now) cause) outcome now (Halted cause) (wide_is w c.self.inside.found c.self.invariant.wiring) c.self.view_is programs

@@ -10,7 +10,8 @@ use Rattle.nor_bank.specs.State.{BankState, word_bytes}
 use Rattle.nor_bank.specs.Way.{halting}
 use Rattle.nor_bank.specs.Work.{with_bus}
 use Rattle.nor_bank.proofs.LocksLosing.{kept_halt}
-use Rattle.nor_bank.proofs.ReadingHeld.{wide_word, reads_by, loses_by}
+use Rattle.nor_bank.proofs.ReadingHeld.{reads_by, loses_by}
+use Rattle.nor_bank.proofs.Served.{wide_is}
 use Rattle.nor_bank.proofs.bank.Bank.read_ready.Goals as goal
 
 pub returns-in-Ok-clause-reads : goal.returns-in-Ok-clause-reads
@@ -28,7 +29,7 @@ returns-in-Ok-clause-reads g c =
 
 pub returns-in-Ok-clause-wide : goal.returns-in-Ok-clause-wide
 returns-in-Ok-clause-wide g c =
-    subst (λ (b : BankState). word_bytes b.found ≡ g.W.BusWord.WIDTH) c.self.view_is (wide_word g.W.BusWord.WIDTH c.self.inside.found c.self.invariant.wiring)
+    subst (λ (b : BankState). word_bytes b.found ≡ g.W.BusWord.WIDTH) c.self.view_is (wide_is g.W.BusWord.WIDTH c.self.inside.found c.self.invariant.wiring)
 
 pub returns-in-Err-clause-reads : goal.returns-in-Err-clause-reads
 returns-in-Err-clause-reads g c =
@@ -54,4 +55,4 @@ returns-in-Err-clause-reads g c =
 
 pub returns-in-Err-clause-wide : goal.returns-in-Err-clause-wide
 returns-in-Err-clause-wide g c =
-    subst (λ (b : BankState). word_bytes b.found ≡ g.W.BusWord.WIDTH) c.self.view_is (wide_word g.W.BusWord.WIDTH c.self.inside.found c.self.invariant.wiring)
+    subst (λ (b : BankState). word_bytes b.found ≡ g.W.BusWord.WIDTH) c.self.view_is (wide_is g.W.BusWord.WIDTH c.self.inside.found c.self.invariant.wiring)

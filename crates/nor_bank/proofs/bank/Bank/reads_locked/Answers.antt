@@ -1,4 +1,4 @@
-use Rattle.std.proofs.Common.{◌≡◌, sym, subst}
+use Rattle.std.proofs.Common.{sym, subst}
 use Rattle.nor_bus.specs.Driven.{EachLane, Lost, Reaches, Went}
 use Rattle.nor_poll.specs.Lock.{OffersLocks, TellsLock}
 use Rattle.nor_poll.specs.Losing.{LosesNone}
