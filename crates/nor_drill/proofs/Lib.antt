@@ -1,0 +1,5 @@
+pub mod Banks
+pub mod Scripts
+pub mod Sums
+pub mod Tallies
+pub mod Texts
