@@ -1,8 +1,9 @@
-//! Calls of eight callers, as numbers draw them, on banks of either set: one legal history each.
+//! Calls of eight callers, as numbers draw them, on banks of either set and of each
+//! wiring: one legal history each.
 use crate::beside::{Beside, Call};
 use crate::images::{
-    Image, WeakPlace, amd_table, four, intel_table, load, ones, rising, unequal, weak, whole_erase,
-    with,
+    Image, WeakPlace, amd_table, byte_mode, four, intel_table, load, ones, rising, unequal, weak,
+    whole_erase, with,
 };
 use nor_array::Reply;
 use nor_bus::SimBank;
@@ -97,8 +98,10 @@ fn eight_callers_mix_their_calls_on_set_1(rt: HostRuntime) -> Result<(), Fail> {
     goes(&rt, alloc, &weak(), 3)?;
     let four_of_bytes = ones(4, X8, with(intel_table(), &[(0x28, 0)]));
     goes(&rt, alloc, &four_of_bytes, 4)?;
-    let byte_mode = ones(2, X16Byte, with(intel_table(), &[(0x28, 2), (0x3A, 0)]));
-    goes(&rt, alloc, &byte_mode, 5)
+    let two_in_byte_mode = ones(2, X16Byte, with(intel_table(), &[(0x28, 2), (0x3A, 0)]));
+    goes(&rt, alloc, &two_in_byte_mode, 5)?;
+    let two_of_bytes = ones(2, X8, with(intel_table(), &[(0x28, 0)]));
+    goes(&rt, alloc, &two_of_bytes, 6)
 }
 
 #[test]
@@ -124,5 +127,6 @@ fn eight_callers_mix_their_calls_on_set_2(rt: HostRuntime) -> Result<(), Fail> {
         paces,
         ..whole_erase()
     };
-    goes(&rt, alloc, &whole, 5)
+    goes(&rt, alloc, &whole, 5)?;
+    goes(&rt, alloc, &byte_mode(), 6)
 }
