@@ -34,7 +34,7 @@ range_locks r caller (Read at len) bytes a range = refl
 range_locks r caller (Program at new) bytes a range = refl
 range_locks r caller op bytes a range = absurd (false_true range)
 
-none_lowest : (test : ℕ → Bool) (k n : ℕ) → ((b : ℕ) → test b ≡ false) → lowest test k n ≡ None
+pub none_lowest : (test : ℕ → Bool) (k n : ℕ) → ((b : ℕ) → test b ≡ false) → lowest test k n ≡ None
 none_lowest test k zero none = refl
 none_lowest test k (suc n) none = ap (λ (b : Bool). if b then Some k else lowest test (k + 1) n) (none k) ∙ none_lowest test (k + 1) n none
 

@@ -18,14 +18,14 @@ use Rattle.nor_bank.specs.Refused.{outline, bank_refusal, kept_cut, Refuses}
 use Rattle.nor_bank.specs.Stands.{Stands, IsOn, EraseIs, PowerIs, kept_power, under_of}
 use Rattle.nor_bank.specs.State.{BankState}
 use Rattle.nor_bank.specs.Whole.{Arms, PowersBank, armed_with}
-use Rattle.nor_bank.specs.Work.{with_bus, Stays}
+use Rattle.nor_bank.specs.Work.{with_bus, Stays, KeepsBank}
 use Rattle.nor_bank.specs.declared.kept.Erasing.{Erasing}
 use Rattle.nor_probe.specs.declared.probing.Found.{Found}
 use Rattle.nor_bank.proofs.Meeting.{open_nowhere}
 use Rattle.nor_bank.proofs.Outlines.{refuses_as_array}
 use Rattle.nor_bank.proofs.Powering.{stands_powered}
 use Rattle.nor_bank.proofs.RefusalOrder.{refuses_in_turn}
-use Rattle.nor_bank.proofs.RefusedCalls.{refuses_kept}
+use Rattle.nor_bank.proofs.RefusedCalls.{refuses_kept, keeps_chips}
 use Rattle.nor_bank.proofs.Refusing.{refused_entry, refused_by, kept_stuck}
 use Rattle.nor_bank.proofs.Standing.{is_on_now, bytes_known, known_last, lasts_same, stays_standing}
 
@@ -213,3 +213,17 @@ pub arms_from : (was b : BankState) (bus : BusState) (n m : ℕ) → was ≡ b �
 arms_from was b bus n m same running is =
     arms_done b (record was { bus = bus; after = n }) n m running
     (ap (λ (x : BusState). record was { bus = x; after = n }) is ∙ ap (λ (x : BankState). armed_with n m x) same)
+
+-- ---- what they leave
+
+pub arms_keep : (was b : BankState) (bus : BusState) (n m : ℕ) → was ≡ b → bus ≡ record was.bus { armed = Some (record { after = n; mask = m }) }
+    → KeepsBank b (record was { bus = bus; after = n })
+arms_keep was b bus n m same is =
+    let new : BankState = record was { bus = bus; after = n } in
+    subst (λ (x : BankState). KeepsBank x new) same
+    (record { found = refl; lanes = keeps_chips was.bus bus (ap (λ (x : BusState). x.lanes) is) })
+
+pub powers_keep : (was b : BankState) (bus : BusState) → was ≡ b → KeepsLanes was.bus bus → KeepsBank b (record was { bus = bus; halted = None })
+powers_keep was b bus same kept =
+    let new : BankState = record was { bus = bus; halted = None } in
+    subst (λ (x : BankState). KeepsBank x new) same (record { found = refl; lanes = kept })

@@ -20,6 +20,7 @@ use Rattle.nor_bank.specs.Locks.{blocks_met}
 use Rattle.nor_bank.specs.Refused.{outline}
 use Rattle.nor_bank.specs.State.{BankState, size_of, blocks_of}
 use Rattle.nor_bank.proofs.Known.{blocks_follow}
+use Rattle.nor_array.proofs.Unlocked.{none_lowest}
 
 -- ---- the lowest number that passes
 
@@ -41,10 +42,6 @@ lowest_is test k (suc n) m above below here before = elim (up_to k m above) [
       ap (λ (b : Bool). if b then Some k else lowest test (k + 1) n) (before k less)
       ∙ lowest_is test (k + 1) n m (omega (arith, less)) (omega (arith, below)) here before
 ]
-
-pub lowest_none : (test : ℕ → Bool) (k n : ℕ) → ((j : ℕ) → test j ≡ false) → lowest test k n ≡ None
-lowest_none test k zero none = refl
-lowest_none test k (suc n) none = ap (λ (b : Bool). if b then Some k else lowest test (k + 1) n) (none k) ∙ lowest_none test (k + 1) n none
 
 -- ---- blocks that follow each other
 
@@ -70,7 +67,7 @@ not_reached at len span before = grind (arith, nat_tests)
 
 pub open_nowhere : (target : Target) (a : ArrayState) → touched_open target a Nowhere ≡ None
 open_nowhere (OneBlock k) a = refl
-open_nowhere AllBlocks a = lowest_none (touches a Nowhere) 0 (length a.consts.blocks) (λ j. refl)
+open_nowhere AllBlocks a = none_lowest (touches a Nowhere) 0 (length a.consts.blocks) (λ j. refl)
 
 -- ---- a call that touches one block, where all are under erase
 

@@ -1,9 +1,8 @@
 -- What a suspend of the erase of a block makes of its lanes.
 use Rattle.std.proofs.Common.{◌≡◌, ◌<◌, ◌≤◌, ◌+◌, inl, inr, ℕ, List, slice_index, refl, sym, ◌∙◌, ap, subst, arith, Bool, true, false, None}
-use Rattle.std.specs.Prelude.{◌&&◌, not, if◌then◌else◌}
-use Rattle.std.proofs.lemmas.Bool.{and_right}
+use Rattle.std.specs.Prelude.{◌&&◌, if◌then◌else◌}
 use Rattle.nor_cell.specs.Between.{IsShown}
-use Rattle.nor_cell.specs.Chip.{ChipState, Job, Idle, OneBlock, Fault, counted}
+use Rattle.nor_cell.specs.Chip.{ChipState, Idle, OneBlock, Fault, counted}
 use Rattle.nor_cell.specs.Table.{extended, extended_at, set_of, suspend_kind, suspend_of as chip_suspend_of, intel_suspend, amd_suspend}
 use Rattle.nor_cell.specs.declared.device.Set.{Set}
 use Rattle.nor_cell.specs.declared.device.Set.TheVariants.{Intel, Amd}
@@ -17,7 +16,7 @@ use Rattle.nor_probe.specs.Probed.{IsFoundBy}
 use Rattle.nor_probe.specs.WellWired.{shown_table}
 use Rattle.nor_probe.specs.declared.probing.Found.{Found}
 use Rattle.nor_probe.proofs.OneTable.{shown_later}
-use Rattle.nor_poll.specs.Suspend.{Suspends, ChangesInSuspend, pauses, is_long}
+use Rattle.nor_poll.specs.Suspend.{Suspends, ChangesInSuspend, pauses}
 use Rattle.nor_poll.specs.Toggles.{names_job}
 use Rattle.nor_poll.specs.UnderErase.{LaneIs}
 use Rattle.nor_poll.specs.declared.lanes.LaneState.{LaneState}
@@ -26,6 +25,7 @@ use Rattle.nor_bank.specs.Looks.{StaysOutside}
 use Rattle.nor_bank.specs.Stands.{IsKnown}
 use Rattle.nor_bank.specs.Way.{CountsOnce, LetsProgram, MayCountSuspend, PassesBy}
 use Rattle.nor_bank.proofs.LookingLanes.{outside_by, remains_self}
+use Rattle.nor_poll.proofs.SuspendEnd.{pauses_idle}
 
 -- ---- what the table offers
 
@@ -61,16 +61,12 @@ lets_program false s may = tt
 
 -- ---- a lane that doesn't run
 
--- a chip without a job isn't suspended
-pub no_pause : (s : ChipState) → s.job ≡ Idle → pauses s ≡ false
-no_pause s idle = ap (λ (j : Job). not s.part.stuck && is_long s.part.pace_suspend j) idle ∙ and_right (not s.part.stuck) false refl
-
 pub none_counted : (may : Bool) (s : ChipState) → pauses s ≡ false → s.suspends ≡ suspends_after may s
 none_counted true s none = sym (ap (λ (b : Bool). if b then counted s.suspends else s.suspends) none)
 none_counted false s none = refl
 
 pub passes_idle : (may : Bool) (s : ChipState) → s.job ≡ Idle → PassesBy may 0 s s
-passes_idle may s idle = record { remains = remains_self s; suspends = none_counted may s (no_pause s idle); left = (omega arith, omega arith) }
+passes_idle may s idle = record { remains = remains_self s; suspends = none_counted may s (pauses_idle s idle); left = (omega arith, omega arith) }
 
 -- ---- a lane in a suspend
 

@@ -25,7 +25,7 @@ use Rattle.nor_bank.specs.State.{BankState}
 use Rattle.nor_bank.specs.Whole.{IsCallOf, MakesCall, MayAnswer}
 use Rattle.nor_bank.specs.Work.{StaysFiled}
 use Rattle.nor_bank.specs.declared.kept.Erasing.{Erasing}
-use Rattle.nor_bank.proofs.PausingLanes.{no_pause}
+use Rattle.nor_poll.proofs.SuspendEnd.{pauses_idle}
 use Rattle.nor_bank.proofs.RangeRefusals.{is_refused, refused_other, range_on, range_refused}
 use Rattle.nor_bank.proofs.Using.{UsesBus, uses_went, uses_lost}
 
@@ -179,7 +179,7 @@ suspends_stay caller op r old new given a stands closed (IsIdle done same run) m
 suspends_stay caller op r old new given a stands closed (DoesWork works run) made =
     λ c below.
     let quiet = closed_quiet old a stands run closed c below in
-    counts_none r _ (lane old.bus c) (lane new.bus c) (no_pause (lane old.bus c) quiet.shown.job) (made.counts works c below).suspends
+    counts_none r _ (lane old.bus c) (lane new.bus c) (pauses_idle (lane old.bus c) quiet.shown.job) (made.counts works c below).suspends
 
 pub uses : (op : Op) (r : Reply) (old new : BankState) → Spends op r old new → UsesBus old.bus new.bus
 uses op r old new spends = by_end spends.asked

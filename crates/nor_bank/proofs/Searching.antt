@@ -44,9 +44,6 @@ any_map test f (x ∷ xs) = ap (λ (b : Bool). test (f x) || b) (any_map test f 
 
 -- ---- lists of places of which each begins a unit of d bytes
 
-abbrev AllBegin : ℕ → List ℕ → Type 0
-AllBegin d places = list_all (λ p. p % d == 0) places ≡ true
-
 -- Where a place passes, it passes the second test too.
 pub any_so : (d : ℕ) (first second : ℕ → Bool) (places : List ℕ) → list_all (λ p. p % d == 0) places ≡ true
     → ((p : ℕ) → p % d ≡ 0 → first p ≡ true → second p ≡ true) → list_any first places ≡ true → list_any second places ≡ true

@@ -307,9 +307,6 @@ rests_idle s is free = record { rest = (shown_takes s.part.set s refl is).rest; 
 pub reset_shows : (kind : Set) (s : ChipState) → AtRest kind s → IsShown (reset s)
 reset_shows kind s is = record { mode = refl; step = is.step; job = is.job; fault = refl }
 
-pub reset_idle : (s : ChipState) → IsIdle s → IsIdle (reset s)
-reset_idle s is = rests_idle (reset s) (reset_shows s.part.set s is.rest) is.held
-
 -- and so is one that shows its query table
 pub query_idle : (s : ChipState) → IsIdle s → IsIdle (record (reset s) { mode = Query })
 query_idle s is = record {

@@ -71,11 +71,3 @@ pub record IsWritten (s t : ChipState) : Type 0 where
   pub cells : t.cells ≡ s.cells
   pub locks : length t.locks ≡ length s.locks
   pub fault : t.fault ≡ s.fault
-
-pub written_keeps : (s t : ChipState) → IsWritten s t → Keeps s t
-written_keeps s t h = record {
-  part = h.part;
-  size = ap length h.cells;
-  locks = h.locks;
-  bytes = λ bytes p. rw h.cells (bytes p);
-}

@@ -4,15 +4,11 @@ use Rattle.std.specs.Prelude.{IsTrue}
 use Rattle.std.proofs.lemmas.Bool.Decides.{nat_tests}
 use Rattle.std.proofs.lemmas.List.{length-replicate}
 use Rattle.nor_cell.specs.Cells.{given_or_open}
-use Rattle.nor_cell.specs.Chip.{is_any_set, Locks}
-use Rattle.nor_cell.specs.Machine.{mode_of, ModeFits}
+use Rattle.nor_cell.specs.Chip.{is_any_set}
 use Rattle.nor_cell.specs.Power.{locks_after}
 use Rattle.nor_cell.specs.Ranges.{AreOffered, is_none_or_each}
 use Rattle.nor_cell.specs.Table.{has_locks}
-use Rattle.nor_cell.specs.declared.cells.Cells.{Cells}
 use Rattle.nor_cell.specs.declared.device.Set.TheVariants.{Amd}
-use Rattle.nor_cell.specs.declared.state.ShownMode.{ShownMode}
-use Rattle.nor_cell.specs.declared.state.ShownMode.TheVariants.{Array as ArrayShown, Query as QueryShown, Ident as IdentShown, Status as StatusShown, Locks as LocksShown}
 use Rattle.nor_cell.proofs.Logic.{same_number}
 
 pub open_locks : (n : ℕ) → is_any_set (replicate n false) ≡ false
@@ -38,16 +34,6 @@ amd_keeps table locks h = go (has_locks table) refl
     go : (b : Bool) → has_locks table ≡ b → locks ≡ (if b then locks else replicate (length locks) false)
     go true e = refl
     go false e = none_is_set locks (h e)
-
--- where the locks are shown, the table offers them
-pub shown_offered : (mode : ShownMode) (cells : Cells) → mode_of mode ≡ Locks → ModeFits mode cells → has_locks cells.table ≡ true
-shown_offered ArrayShown cells h fits = cc
-shown_offered QueryShown cells h fits = cc
-shown_offered IdentShown cells h fits = cc
-shown_offered StatusShown cells h fits = cc
-shown_offered LocksShown cells h fits = fits
-
--- ---- locks that are given, or open ones
 
 pub given_offered : (table : List ℕ) (locks : List Bool) (n : ℕ) → AreOffered table locks → AreOffered table (given_or_open locks n)
 given_offered table [] n h = open_locks_offered table n

@@ -1,12 +1,12 @@
 -- Locks that agree with those of the lanes before, and what the fields of locks refuse.
-use Rattle.std.proofs.Common.{◌≡◌, ◌≢◌, ◌<◌, ◌≤◌, ◌⊎◌, inl, inr, ◌+◌, ◌==◌, ◌||◌, ◌&&◌, ℕ, zero, suc, List, [], ◌∷◌, ◌++◌, length, slice_index, Bool, true, false, not, nat_le, refl, sym, ap, subst, ◌∙◌, arith, add-one, Some, None}
+use Rattle.std.proofs.Common.{◌≡◌, ◌≢◌, ◌<◌, ◌⊎◌, inl, inr, ◌+◌, ◌==◌, ◌||◌, ℕ, zero, suc, List, [], ◌∷◌, ◌++◌, length, slice_index, Bool, true, false, not, refl, sym, ap, subst, ◌∙◌, arith, add-one, Some, None}
 use Rattle.std.specs.Prelude.{slice_index_or}
 use Rattle.std.proofs.lemmas.Bool.{cases_eq, and_from}
 use Rattle.std.proofs.lemmas.Bool.Decides.{nat_tests}
 use Rattle.nor_cell.proofs.Logic.{both_pass}
 use Rattle.nor_image.specs.Image.{tested_field, refusal_of, first_refusal, same_lock, is_agreed, is_lock_byte, each_lock, locks_from}
 use Rattle.nor_image.specs.declared.error.ImageError.{ImageError}
-use Rattle.nor_image.proofs.Refusals.{first_refusal-append, goes_on, or_none, or_some, stays, none_both, field_passes}
+use Rattle.nor_image.proofs.Refusals.{first_refusal-append, goes_on, or_none, or_some, stays, none_both}
 
 -- ---- agreement
 

@@ -1,13 +1,11 @@
 -- The lanes of a well formed file agree on their locks.
-use Rattle.std.proofs.Common.{◌≡◌, ◌≢◌, ◌<◌, ◌≤◌, ◌⊎◌, inl, inr, ◌+◌, ◌==◌, ℕ, zero, suc, List, [], ◌∷◌, ◌++◌, length, slice_index, slice_index_or, Bool, true, false, nat_le, replicate, refl, sym, ap, subst, ◌∙◌, arith, if◌then◌else◌, Some, None}
+use Rattle.std.proofs.Common.{◌≡◌, ◌≢◌, ◌<◌, ◌≤◌, ◌⊎◌, inl, inr, ◌+◌, ◌==◌, ℕ, zero, suc, List, [], ◌∷◌, length, slice_index, slice_index_or, Bool, true, false, nat_le, replicate, refl, sym, ap, subst, ◌∙◌, arith, if◌then◌else◌, None}
 use Rattle.std.proofs.lemmas.Bool.{cases_eq, cases_lt}
 use Rattle.std.specs.Option.{option_or}
 use Rattle.nor_cell.proofs.Logic.{both_pass}
 use Rattle.nor_cell.specs.Chip.{ChipState}
-use Rattle.nor_cell.specs.Table.{has_locks, set_of}
-use Rattle.nor_cell.specs.declared.device.Set.{Set}
+use Rattle.nor_cell.specs.Table.{set_of}
 use Rattle.nor_bus.specs.Bus.{chip_at}
-use Rattle.nor_query.specs.Derived.{keeps_locks}
 use Rattle.nor_image.specs.Image.{first_refusal, refusal_of, record_fields, fields_before, record_place, number_fields, table_field, size_field, weak_fields, lock_fields, lock_fields_of, cells_field, weak_count, version_of, machine_of, lanes_of_file, image_refusal, trailing, table_in, lock_count, locks_at, locks_from, locks_of, kept_in, kept_before, is_agreed, is_lock_byte, each_lock, count_field}
 use Rattle.nor_image.specs.Reading.{AreChips}
 use Rattle.nor_image.specs.Written.{kept_of, bank_set, AgreeOnLocks}
@@ -136,9 +134,3 @@ same_by true true xs ys is same = is
 same_by true false xs ys is same = none_kept xs same
 same_by false true xs ys is same = sym (none_kept ys (sym same))
 same_by false false xs ys is same = refl
-
--- chips with the same locks agree on them
-pub same_locks_agree : (chips : List ChipState) → ((c : ℕ) → c < length chips → (chip_at chips c).locks ≡ (chip_at chips 0).locks) → AgreeOnLocks chips
-same_locks_agree chips all = λ c d bc bd same.
-    same_by (keeps_locks (bank_set chips) (has_locks (chip_at chips c).part.table)) (keeps_locks (bank_set chips) (has_locks (chip_at chips d).part.table))
-    (chip_at chips c).locks (chip_at chips d).locks (all c bc ∙ sym (all d bd)) same

@@ -3,14 +3,13 @@ use Rattle.std.proofs.Common.{◌≡◌, ◌≢◌, ◌<◌, ◌≤◌, ◌⊎�
 use Rattle.std.proofs.Math.ListN.{get_or-append}
 use Rattle.std.proofs.Math.Seq.{get_or-append_seam}
 use Rattle.std.proofs.lemmas.Bool.{cases_eq}
-use Rattle.std.proofs.lemmas.List.{length-append, length-map, map-append}
+use Rattle.std.proofs.lemmas.List.{length-append, map-append}
 use Rattle.nor_cell.specs.Bits.{AreBytes}
 use Rattle.nor_cell.specs.Cells.{chip_of}
 use Rattle.nor_cell.specs.Chip.{ChipState}
 use Rattle.nor_cell.specs.Power.{powered}
 use Rattle.nor_cell.specs.declared.cells.Cells.{Cells}
 use Rattle.nor_cell.specs.declared.device.Set.{Set}
-use Rattle.nor_cell.specs.declared.device.Set.TheVariants.{Intel}
 use Rattle.nor_bus.specs.Bus.{chip_at, no_chip}
 use Rattle.nor_bus.proofs.Sizes.{chip_size}
 use Rattle.nor_image.specs.Image.{first_refusal, record_fields, fields_before, header_fields, record_place, record_end, version_of, machine_of, lanes_of_file, device_of, size_in, kept_locks, kept_in, kept_before, lock_count, locks_len, chip_in, trailing, image_refusal, is_size_by}
@@ -59,10 +58,6 @@ pub record LanesSoFar (file : List ℕ) (n at : ℕ) (lanes : List Cells) : Type
   pub none : first_refusal file (fields_before file n) ≡ None
   pub kept : kept_of_each (machine_of file) lanes ≡ kept_before file n
   pub chips : (set : Set) → AreChips file set n (chips_of set lanes)
-
--- as many cells as records
-pub lanes_count : (file : List ℕ) (n at : ℕ) (lanes : List Cells) → LanesSoFar file n at lanes → length lanes ≡ n
-lanes_count file n at lanes so = sym (length-map lanes (λ (c : Cells). powered (chip_of Intel c))) ∙ (so.chips Intel).count
 
 -- one more record
 pub lanes_more : (file : List ℕ) (n at next : ℕ) (lanes more : List Cells) (cells : Cells) → LanesSoFar file n at lanes

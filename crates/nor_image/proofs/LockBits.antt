@@ -1,5 +1,5 @@
 -- The locks that a record stores, and those that its chip keeps.
-use Rattle.std.proofs.Common.{◌≡◌, ◌≢◌, ◌<◌, ◌≤◌, ◌⊎◌, inl, inr, ◌+◌, ◌^◌, ◌==◌, ◌||◌, ◌&&◌, ℕ, zero, suc, List, [], ◌∷◌, ◌++◌, length, slice_index, Bool, true, false, not, replicate, refl, sym, ap, ◌∙◌, arith, if◌then◌else◌}
+use Rattle.std.proofs.Common.{◌≡◌, ◌≢◌, ◌<◌, ◌≤◌, ◌⊎◌, inl, inr, ◌+◌, ◌^◌, ◌==◌, ◌||◌, ℕ, zero, suc, List, [], ◌∷◌, ◌++◌, length, slice_index, Bool, true, false, replicate, refl, sym, ap, ◌∙◌, arith, if◌then◌else◌}
 use Rattle.std.specs.Prelude.{slice_index_or}
 use Rattle.std.proofs.Math.ListN.{get_or-append}
 use Rattle.std.proofs.Math.Seq.{get_or-append_seam}
@@ -7,9 +7,8 @@ use Rattle.std.proofs.lemmas.Bool.{cases_eq}
 use Rattle.std.proofs.lemmas.Bool.Decides.{nat_tests}
 use Rattle.std.proofs.lemmas.List.{length-append, length-replicate}
 use Rattle.nor_cell.specs.Cells.{given_or_open}
-use Rattle.nor_cell.specs.Chip.{is_any_set}
 use Rattle.nor_cell.specs.Power.{locks_after}
-use Rattle.nor_cell.specs.Ranges.{is_chip_size, is_none_or_each, AreOffered}
+use Rattle.nor_cell.specs.Ranges.{is_chip_size, is_none_or_each}
 use Rattle.nor_cell.specs.Table.{has_locks}
 use Rattle.nor_cell.specs.declared.device.Set.{Set}
 use Rattle.nor_cell.specs.declared.device.Span.{Span}
@@ -93,15 +92,6 @@ count_few version set table blocks count size is same few sized =
     let long = ap (λ (spans : List Span). length spans) same in
     let small = (chip_size size sized).1 in
     omega arith
-
--- none are stored where the table offers none
-none_stored : (version : Version) (set : Set) (table : List ℕ) → has_locks table ≡ false → stored_count version set table ≡ 0
-none_stored One set table without = refl
-none_stored Two Intel table without = refl
-none_stored Two Amd table without = ap (λ (b : Bool). if b then length (table_blocks table) else 0) without
-
-pub stored_offered : (version : Version) (set : Set) (table : List ℕ) (file : List ℕ) (at : ℕ) → AreOffered table (locks_from file at (stored_count version set table))
-stored_offered version set table file at = λ without. ap (λ (n : ℕ). is_any_set (locks_from file at n)) (none_stored version set table without)
 
 -- version 1 stores none
 pub one_stores_none : (version : Version) (set : Set) (table : List ℕ) → version ≡ One → stored_count version set table ≡ 0

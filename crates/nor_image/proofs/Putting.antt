@@ -1,10 +1,10 @@
 -- What is written, one piece behind the other.
-use Rattle.std.proofs.Common.{◌≡◌, ◌<◌, ◌≤◌, ℕ, ◌+◌, ◌*◌, List, ◌++◌, [], ◌∷◌, length, map, take, get_or, Bool, false, refl, sym, ap, subst, ◌∙◌, arith, append_assoc, append-nil}
+use Rattle.std.proofs.Common.{◌≡◌, ◌<◌, ◌≤◌, ℕ, ◌+◌, ◌*◌, List, ◌++◌, [], ◌∷◌, length, take, get_or, refl, sym, ap, subst, ◌∙◌, arith, append_assoc, append-nil}
 use borrow.Author.Count.{below_more}
 use Rattle.std.proofs.lemmas.Grind.{flat_map-append}
 use Rattle.std.proofs.lemmas.List.Folds.{length-flat_map-take}
-use Rattle.std.proofs.lemmas.List.{length-append, length-take-le, map-append, take_more, take_all}
-use Rattle.std.specs.Int.{w32, to_le_bytes, from_bool}
+use Rattle.std.proofs.lemmas.List.{length-append, length-take-le, take_more, take_all}
+use Rattle.std.specs.Int.{w32, to_le_bytes}
 use Rattle.nor_cell.specs.Chip.{ChipState}
 use Rattle.nor_cell.specs.declared.device.Set.{Set}
 use Rattle.nor_bus.specs.Bus.{chip_at, no_chip}
@@ -50,17 +50,6 @@ records-take_more version set chips c below =
     ap (records_bytes version set) (take_more chips c no_chip below)
     ∙ (flat_map-append (record_bytes version set) (take c chips) (chip_at chips c ∷ [])
     ∙ ap (λ last. records_bytes version set (take c chips) ++ last) (append-nil (record_bytes version set (chip_at chips c))))
-
--- one more lock
-pub locks_put_more : {old mid new : List ℕ} {at next end : ℕ} (front : List ℕ) (locks : List Bool) (k : ℕ) (locked : Bool) → k < length locks → locked ≡ get_or locks k false
-    → Puts (front ++ map from_bool (take k locks)) at old mid next → Puts (from_bool locked ∷ []) next mid new end
-    → Puts (front ++ map from_bool (take (k + 1) locks)) at old new end
-locks_put_more {old = old} {new = new} {at = at} {end = end} front locks k locked below is before more =
-    let bits = map from_bool (take k locks) in
-    let pieces : map from_bool (take (k + 1) locks) ≡ bits ++ from_bool locked ∷ [] =
-    ap (map from_bool) (take_more locks k false below)
-    ∙ (map-append from_bool (take k locks) (get_or locks k false ∷ []) ∙ ap (λ b. bits ++ from_bool b ∷ []) (sym is)) in
-    subst (λ (bytes : List ℕ). Puts bytes at old new end) (append_assoc front bits (from_bool locked ∷ []) ∙ ap (λ bs. front ++ bs) (sym pieces)) (puts_next before more)
 
 -- there is room for the record of one more chip
 pub record_fits : (set : Set) (head : List ℕ) (chips : List ChipState) (c at : ℕ) (chip : ChipState) → c < length chips → chip ≡ chip_at chips c

@@ -1,5 +1,5 @@
 -- The size of a chip.
-use Rattle.std.proofs.Common.{◌≡◌, ◌≤◌, ◌^◌, ℕ, List, [], ◌∷◌, IsTrue, true, false, nat_lt, ◌||◌, ◌==◌, refl, sym, ◌∙◌, arith}
+use Rattle.std.proofs.Common.{◌≡◌, ◌≤◌, ◌^◌, ℕ, List, [], ◌∷◌, IsTrue, false, nat_lt, ◌||◌, ◌==◌, refl, sym, ◌∙◌, arith}
 use Rattle.std.specs.List.{list_any}
 use Rattle.std.proofs.lemmas.Bool.Decides.{nat_tests}
 use Rattle.nor_cell.proofs.Logic.{both_pass, same_number}

@@ -1,5 +1,5 @@
 -- A file that stands for a bank is the file of that bank, byte by byte.
-use Rattle.std.proofs.Common.{◌≡◌, ◌<◌, ◌≤◌, ℕ, ◌+◌, ◌*◌, ◌/◌, ◌%◌, zero, suc, List, [], ◌∷◌, ◌++◌, length, map, take, drop, slice_index, get_or, Bool, true, false, ◌==◌, ◌||◌, nat_le, nat_lt, nat_eq, refl, sym, ap, subst, ◌∙◌, arith, add-one, if◌then◌else◌, Option, Some, None}
+use Rattle.std.proofs.Common.{◌≡◌, ◌<◌, ◌≤◌, ℕ, ◌+◌, ◌*◌, ◌/◌, ◌%◌, zero, suc, List, [], ◌∷◌, ◌++◌, length, map, take, drop, slice_index, Bool, true, false, ◌==◌, ◌||◌, nat_le, nat_lt, nat_eq, refl, sym, ap, subst, ◌∙◌, arith, add-one, if◌then◌else◌, None}
 use Rattle.std.proofs.lemmas.Bool.Decides.{nat_tests}
 use Rattle.std.proofs.lemmas.Grind.{flat_map-append}
 use Rattle.std.proofs.lemmas.List.{length-append, length-map, length-take, length-drop, map-append, drop_more, take_all}
@@ -16,8 +16,7 @@ use Rattle.nor_cell.specs.Table.{set_of}
 use Rattle.nor_bus.specs.Bus.{chip_at}
 use Rattle.nor_io.specs.Fields.{u16_at, u32_at}
 use Rattle.nor_image.specs.Image.{any_field, tested_field, magic_of, is_magic, version_of, magic_field, refusal_of, first_refusal, bytes_at, width_of, device_of, device_of_code, lanes_of_file, machine_of, trailing, image_refusal, IsImageOf, weak_count, table_in, size_in, weak_in, weak_field_at, cells_at, record_end, record_place, record_fields, fields_before, header_fields, number_fields, table_field, size_field, weak_fields, lock_fields, cells_field, locks_len, lock_count, locks_at, locks_from, locks_of, kept_in, kept_before, is_agreed, is_lock_byte, part_in, chip_in}
-use Rattle.nor_image.specs.declared.error.ImageError.{ImageError}
-use Rattle.nor_image.specs.declared.error.ImageError.TheVariants.{BadMagic, BadHeader, Truncated, Trailing}
+use Rattle.nor_image.specs.declared.error.ImageError.TheVariants.{BadMagic, Truncated, Trailing}
 use Rattle.nor_image.specs.Written.{code_of_device, header_bytes, file_in, number_bytes, place_bytes, lock_bytes, kept_bytes, bank_set, record_bytes, records_bytes}
 use Rattle.nor_image.specs.declared.header.Version.{Version}
 use Rattle.nor_image.specs.declared.header.Version.TheVariants.{One, Two}

@@ -44,9 +44,6 @@ pub nothing_put : (before : Option (List ℕ)) → Appends before [] before
 nothing_put None = refl
 nothing_put (Some before) = ap (λ (r : List ℕ). Some r) (sym (append-nil before))
 
-pub none_put : (all : List ℕ) (a : SinkState) → PutSoFar all all a a
-none_put all a = record { done = []; whole = refl; text = nothing_put a.taken; later = omega arith }
-
 pub more_put : (all rest piece left : List ℕ) (a b c : SinkState) → PutSoFar all rest a b → rest ≡ piece ++ left
     → Appends b.taken piece c.taken → b.faults ≤ c.faults → PutSoFar all left a c
 more_put all rest piece left a b c so is next le = record {

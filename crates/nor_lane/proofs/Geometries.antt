@@ -5,11 +5,7 @@ use Rattle.nor_cell.specs.Wiring.{is_wiring}
 use Rattle.nor_cell.specs.declared.device.Device.{Device}
 use Rattle.nor_cell.specs.declared.device.Device.TheVariants.{X8, X16, X16Byte}
 use Rattle.nor_cell.specs.declared.geometry.Geometry.{Geometry}
-use Rattle.nor_lane.specs.Candidates.{wiring, candidates_of, is_geometry}
-
--- A wiring of some word is one of the nine.
-pub geometry_of_wiring : (width : ℕ) (g : Geometry) → IsTrue (is_wiring width g.lanes g.device) → IsTrue (is_geometry g)
-geometry_of_wiring width g is = grind (arith, is)
+use Rattle.nor_lane.specs.Candidates.{wiring, candidates_of}
 
 -- Each candidate is a wiring of the word.
 pub candidates_fit : (width : ℕ) → All (λ (g : Geometry). IsTrue (is_wiring width g.lanes g.device)) (candidates_of width)
@@ -34,7 +30,3 @@ listed width lanes X16Byte (inr (inr e)) is = so_many 4 width lanes X16Byte (1, 
 listed width lanes X16 (inl e) is = so_many 1 width lanes X16 (2, lit< tt, refl) e is
 listed width lanes X16 (inr (inl e)) is = so_many 2 width lanes X16 (2, lit< tt, refl) e is
 listed width lanes X16 (inr (inr e)) is = so_many 4 width lanes X16 (0, lit< tt, refl) e is
-
--- Each wiring of the word is a candidate.
-pub candidates_all : (width lanes : ℕ) (device : Device) → IsTrue (is_wiring width lanes device) → Contains (candidates_of width) (wiring lanes device)
-candidates_all width lanes device is = let so = one_two_four width lanes (unit_len device) is in listed width lanes device so.0 so.1

@@ -49,14 +49,6 @@ bank_place-place_at lanes d a some =
 pub lane_at_below : (lanes d a : ℕ) → 0 < lanes → lane_at lanes d a < lanes
 lane_at_below lanes d a some = mod-lt (a / d) some
 
--- and within that chip, whose size is a number of units of d bytes.
-pub place_at_below : (lanes d units size a : ℕ) → 0 < lanes → 0 < d → size ≡ units * d → a < lanes * size → place_at lanes d a < size
-place_at_below lanes d units size a lane some whole below =
-    let word : a / d < units * lanes = (div-lt_iff_lt-mul some).1 (let b : a < lanes * (units * d) = subst (λ (n : ℕ). a < lanes * n) whole below in omega arith) in
-    let unit : a / d / lanes < units = (div-lt_iff_lt-mul lane).1 word in
-    let place : place_at lanes d a / d < units = subst (λ (n : ℕ). n < units) (sym (unit_at_place lanes d a some ∙ bus_word lanes d a)) unit in
-    subst (λ (n : ℕ). place_at lanes d a < n) (sym whole) ((div-lt_iff_lt-mul some).0 place)
-
 -- Byte p of a chip is one of the bank.
 pub bank_place_below : (lanes d units size c p : ℕ) → 0 < d → c < lanes → size ≡ units * d → p < size → bank_place lanes d c p < lanes * size
 bank_place_below lanes d units size c p some lane whole below =

@@ -58,7 +58,8 @@ fills_dark p bytes c s u (word ∷ words) m t x idle (Fill {n = n} turned e rest
 abbrev loading : Set → Step → ChipState → ChipState
 loading kind step s = record s { mode = work_mode kind; step = step; flags = cleared_flags kind s.flags }
 
-clears_errors : (kind : Set) (flags : Flags) → (cleared_flags kind flags).erase ≡ true → flags.erase ≡ true
+-- clearing sets no flag
+pub clears_errors : (kind : Set) (flags : Flags) → (cleared_flags kind flags).erase ≡ true → flags.erase ≡ true
 clears_errors Intel flags h = cc
 clears_errors Amd flags h = h
 

@@ -250,7 +250,8 @@ tears kind p bytes reads n s t (inr ended) =
     left_torn (λ q. false) p bytes t.cells s t (torn_stored (unit_len s.part.device) s.part.weak p bytes s.cells t.cells ended.cells)
     (stored_unmoved kind (breaks p bytes s) p bytes t.cells t.toggle_6 t.toggle_2 s t ended.cells.size ended.is) (λ q free. refl)
 
-free_of : (s : ChipState) (q : ℕ) → is_erasing_at s q ≡ false → holds_at s.held s.part.blocks q ≡ false
+-- a place at which a chip doesn't erase isn't under a held erase
+pub free_of : (s : ChipState) (q : ℕ) → is_erasing_at s q ≡ false → holds_at s.held s.part.blocks q ≡ false
 free_of s q free = right_false (erases_at s.job s.part.blocks q) (holds_at s.held s.part.blocks q) free
 
 cut_programming : (kind : Set) (p : ℕ) (bytes : List ℕ) (left : ℕ) (toggle_6 toggle_2 : Bool) (s t : ChipState) → Cuts (toggling toggle_6 toggle_2 (programming kind p bytes left s)) t → Loses p bytes s t

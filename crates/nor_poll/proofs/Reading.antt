@@ -1,6 +1,6 @@
 -- Any number of status reads.
 use Rattle.std.proofs.Common.{◌≡◌, ◌≢◌, ◌+◌, ◌≤◌, inl, inr, ℕ, suc, refl, sym, ap, subst, ◌∙◌, arith, Bool, true, false, add-one, Result, Ok, Err, IsErr, OnErr, List, length}
-use Rattle.nor_cell.specs.Chip.{ChipState, Idle, runs, is_held}
+use Rattle.nor_cell.specs.Chip.{ChipState, Idle, is_held}
 use Rattle.nor_bus.specs.Bus.{BusState, chip_at, lane}
 use Rattle.nor_bus.specs.Cycles.{BusFails, KeepsLanes}
 use Rattle.nor_bus.specs.Driven.{Went, Lost, EachLane, Darkens, Asks}
@@ -14,7 +14,7 @@ use Rattle.nor_poll.specs.declared.codes.Command.TheVariants.{ShowArray, ClearEr
 use Rattle.nor_poll.specs.declared.codes.Cycle.{Cycle}
 use Rattle.nor_poll.specs.declared.watch.Seen.{Seen}
 use Rattle.nor_poll.specs.declared.watch.Seen.TheVariants.{Working}
-use Rattle.nor_poll.proofs.Telling.{working_runs, idle_if}
+use Rattle.nor_poll.proofs.Telling.{idle_if}
 
 -- one read more
 pub read_more : (n : ℕ) (s m t : ChipState) → AfterReads s n m → IsLooked m t → AfterReads s (n + 1) t
@@ -31,9 +31,6 @@ shows_after s n t (OneMore {m = m} before look) h = shows_then m t (shows_after 
 -- a chip that isn't told to work runs no job, and one that is told so does
 pub told_idle : (s t : ChipState) (it : Seen) → Told s it t → it ≢ Working → t.job ≡ Idle
 told_idle s t it h not_working = idle_if t.job (is_held t.held) t.flags (λ e. not_working (h.told ∙ e))
-
-pub told_runs : (s t : ChipState) (it : Seen) → Told s it t → it ≡ Working → runs t.job ≡ true
-told_runs s t it h e = working_runs (runs t.job) (is_held t.held) t.flags (sym h.told ∙ e)
 
 dark_by : (power : Bool) (old new : BusState) → old.power ≡ power → BusFails old new → EachLane Darkens old new
 dark_by true old new on h = λ c below. inr (h.cut_now on c below)

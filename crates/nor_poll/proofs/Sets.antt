@@ -13,7 +13,7 @@ use Rattle.nor_poll.specs.Codes.{cycles_of, after_cycles, DarkensIn}
 use Rattle.nor_bus.specs.Driven.{Darkens, EachPart}
 use Rattle.nor_poll.specs.Polled.{Answers, polling_for, working_reads, viewed}
 use Rattle.nor_poll.specs.Reads.{EachSent}
-use Rattle.nor_poll.specs.Rest.{Resets, Settles, SettlesUnbroken, settled}
+use Rattle.nor_poll.specs.Rest.{Resets, Settles, settled}
 use Rattle.nor_cell.specs.Between.{AtRest, IsClear, reset}
 use Rattle.nor_poll.specs.Losing.{LosesNone}
 use Rattle.nor_poll.specs.Toggles.{ShowsToggle, ShowsDatum, IsProgramFault}
@@ -41,9 +41,6 @@ shows Amd u s rest clear = subst (λ (x : ChipState). Leads u s [] s x) (was_cle
 
 pub settles : (set : Set) (u : ℕ) (s t : ChipState) → t ≡ after_cycles u (cycles_of set ClearErrors) s → Settles set s t
 settles set u s t is rest = is ∙ leads_to u s (cycles_of set ClearErrors) s (settled set s) (clears set u s rest)
-
-pub settles_unbroken : (set : Set) (u bits : ℕ) (s t : ChipState) → bits ≡ 0 → t ≡ after_cycles u (cycles_of set ShowArray) s → SettlesUnbroken set bits s t
-settles_unbroken set u bits s t none is rest clear = is ∙ leads_to u s (cycles_of set ShowArray) s (settled set s) (shows set u s rest (clear none))
 
 pub loses_settling : (set : Set) (u : ℕ) (s t : ChipState) → DarkensIn u (cycles_of set ClearErrors) s t → LosesNone (AtRest set) s t
 loses_settling set u s t dark rest = leads_dark 0 [] u s (cycles_of set ClearErrors) s (settled set s) t rest.job (clears set u s rest) dark

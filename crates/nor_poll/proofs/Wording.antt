@@ -1,17 +1,16 @@
 -- A program of one word, from its begin to its end, by the calls of either set.
-use Rattle.std.proofs.Common.{◌≡◌, ◌+◌, ◌-◌, ◌*◌, ◌<◌, ◌≤◌, ◌⊎◌, inl, inr, ℕ, refl, sym, subst, ap, ◌∙◌, arith, Bool, false, List, []}
+use Rattle.std.proofs.Common.{◌≡◌, ◌+◌, ◌-◌, ◌*◌, ◌<◌, ◌≤◌, ◌⊎◌, inl, inr, ℕ, sym, subst, ap, ◌∙◌, arith, Bool, false, List}
 use Rattle.std.proofs.lemmas.Bool.{cases_lt}
 use Rattle.nor_cell.specs.Bits.{has_bit, unit_bytes}
 use Rattle.nor_cell.specs.Chip.{ChipState, Status, place}
 use Rattle.nor_cell.specs.Between.{AtRest}
-use Rattle.nor_cell.specs.Power.{is_erasing_at}
 use Rattle.nor_cell.specs.declared.device.Set.{Set}
 use Rattle.nor_cell.specs.declared.geometry.Geometry.{Geometry}
 use Rattle.nor_word.specs.Word.{lane_of}
 use Rattle.nor_bus.specs.Bus.{BusState, lane, lanes_of, wide}
-use Rattle.nor_bus.specs.Driven.{Reaches, Went, AllLanes, Counted, Darkens, EachPart}
+use Rattle.nor_bus.specs.Driven.{Reaches, Went, AllLanes, Counted, EachPart}
 use Rattle.nor_bus.proofs.Driving.{went_then, lost_then, reaches_kept, lane_kept}
-use Rattle.nor_poll.specs.Losing.{Loses, LosesNone}
+use Rattle.nor_poll.specs.Losing.{LosesNone}
 use Rattle.nor_poll.specs.Polled.{Answers, working_reads}
 use Rattle.nor_poll.specs.Reads.{AfterReads, WorksAfter, ReadBy, DarkAfter, EachSent}
 use Rattle.nor_poll.specs.Rest.{SettlesUnbroken}
@@ -27,7 +26,6 @@ use Rattle.nor_poll.specs.declared.watch.Seen.TheVariants.{Ready}
 use Rattle.nor_poll.specs.declared.polling.Polling.{Polling}
 use Rattle.nor_poll.specs.declared.polling.Polling.TheVariants.{Status, EraseStatus, Toggle, Data}
 use Rattle.nor_bus.proofs.Counting.{counted_exactly, counted_then}
-use Rattle.nor_poll.proofs.Losing.{dark_idle, torn_none, left_torn}
 use Rattle.nor_poll.proofs.Begun.{Begun, tells as program_tells, program_done, loses_ended as program_loses, works_for as program_works_for, dark_begun, tears_begun, stuck_begun}
 
 abbrev bytes_of : ℕ → ChipState → List ℕ
@@ -55,15 +53,6 @@ loses_ended kind u v s b m t it begins waits loses takes =
     program_loses kind u (place s.part u) (bytes_of v s) (word_reads s) s b m t it (begun kind u v s b takes begins) (waits takes) loses
 
 -- ---- power goes while a chip is at rest
-
-pub dark_rest : (kind : Set) (p : ℕ) (bytes : List ℕ) (s t : ChipState) → AtRest kind s → Darkens s t → Loses p bytes s t
-dark_rest kind p bytes s t rest dark = dark_idle p bytes s s t s.mode s.step s.flags rest.job (λ h. h) refl dark
-
--- nothing was lost, of a chip that was to be programmed
-pub loses_any : (p : ℕ) (bytes : List ℕ) (s t : ChipState) → Loses 0 [] s t → Loses p bytes s t
-loses_any p bytes s t h = left_torn (is_erasing_at s) p bytes s.cells s t (torn_none p bytes s.cells) h.keeps (λ q free. h.above q free (omega arith))
-
--- ---- lanes past the last one, and the number of polls
 
 past_by : (bits lanes k : ℕ) (f : ℕ → Seen) → ((c : ℕ) → c < 4 → has_bit bits c ≡ is_broken (f c)) → ((c : ℕ) → 4 ≤ c → has_bit bits c ≡ false)
     → ((c : ℕ) → lanes ≤ c → f c ≡ Ready) → lanes ≤ k → (k < 4) ⊎ (4 ≤ k) → has_bit bits k ≡ false

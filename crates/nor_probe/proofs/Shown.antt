@@ -14,7 +14,7 @@ use Rattle.nor_bus.specs.Cycles.{KeepsLanes}
 use Rattle.nor_bus.specs.Driven.{EachLane, AllLanes, Went, Counted}
 use Rattle.nor_bus.specs.Words.{query_word}
 use Rattle.nor_bus.proofs.Words.{same_chips, same_words}
-use Rattle.nor_bus.proofs.Driving.{went_then, went_none}
+use Rattle.nor_bus.proofs.Driving.{went_then}
 use Rattle.nor_cell.specs.Wiring.{is_wiring}
 use Rattle.nor_lane.specs.Candidates.{candidates_of}
 use Rattle.nor_lane.proofs.Geometries.{candidates_fit}
@@ -66,9 +66,6 @@ rests_asked s m t first asks = λ is. let x = first is in asks x.0 ∙ ap (λ (r
 pub rests_then : (s m t : ChipState) → Rests s m → Rests m t → Rests s t
 rests_then s m t first second = λ is. let x = first is in let y = second x.0 in (y.0, y.1 ∙ x.1)
 
-pub rests_none : (s : ChipState) → Rests s s
-rests_none s = λ is. (is, refl)
-
 pub rests_reset : (s m t : ChipState) → Rests s m → Resets m t → Resets s t
 rests_reset s m t first last = λ is. let x = first is in last x.0 ∙ x.1
 
@@ -94,9 +91,6 @@ pub record Tried (width i : ℕ) (old now : BusState) : Type 0 where
   pub went : Went (7 * i) (7 * i) old now
   pub rests : EachLane Rests old now
   pub left : AllLanes IsIdle old → found_geometry width old.lanes ≡ find (λ (g : Geometry). shows_qry g old.lanes) (drop i (candidates_of width))
-
-pub tried_none : (width : ℕ) (bus : BusState) → Tried width 0 bus bus
-tried_none width bus = record { went = went_none bus; rests = λ c below. rests_none (lane bus c); left = λ is. refl }
 
 resting_now : (old now : BusState) → KeepsLanes old now → EachLane Rests old now → AllLanes IsIdle old → AllLanes IsIdle now
 resting_now old now kept rests is = λ c below. let there = subst (λ (n : ℕ). c < n) kept.count below in (rests c there (is c there)).0

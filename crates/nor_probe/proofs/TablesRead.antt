@@ -82,15 +82,6 @@ none_odd g word v some each =
 pub none_differs : (g : Geometry) (n : ℕ) (word : List ℕ) → odd_lane g word ≡ None → None ≡ difference_in g n word
 none_differs g n word none = sym (ap (option_map (λ c. LaneDiffers c n (low_byte g word 0) (low_byte g word c))) none)
 
--- a known byte takes no cycle, and another one
-pub known_free : (device : Device) (n v : ℕ) → known_byte device n ≡ Some v → reads_at device n ≡ 0
-known_free device n v is = ap (λ (o : Option ℕ). if is_some o then 0 else 1) is
-
-pub unknown_one : (device : Device) (n : ℕ) → known_byte device n ≡ None → reads_at device n ≡ 1
-unknown_one device n is = ap (λ (o : Option ℕ). if is_some o then 0 else 1) is
-
--- ---- the word of a byte
-
 -- there is a lane 0
 pub first_lane : (width lanes d : ℕ) → ((lanes == 1 || lanes == 2 || lanes == 4) && (width == lanes * d)) ≡ true → 0 < lanes
 first_lane width lanes d is = grind (arith, is)

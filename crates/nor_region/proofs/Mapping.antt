@@ -5,7 +5,7 @@ use Rattle.std.proofs.lemmas.Bool.{and_parts, leb-true}
 use Rattle.std.proofs.lemmas.List.{length-reverse, length-map}
 use Rattle.std.proofs.lemmas.List.Elements.{All-map}
 use Rattle.std.proofs.lemmas.List.Sorted.{All-permutation, IsPermutation-reverse, sum_by-IsPermutation}
-use Rattle.std.proofs.lemmas.List.Sums.{AllPass-from_list_all, get_or-le-sum_by}
+use Rattle.std.proofs.lemmas.List.Sums.{AllPass-from_list_all}
 use Rattle.std.proofs.Math.Nat.{mul-le-mul_right}
 use Rattle.nor_cell.specs.Chip.{block, block_at, is_within}
 use Rattle.nor_region.specs.Map.{IsMap, in_order, spans_of, scaled_region}
@@ -13,7 +13,6 @@ use Rattle.nor_region.specs.Regions.{region_len, total_len, is_region, are_regio
 use Rattle.nor_region.specs.declared.region.Region.{Region}
 use Rattle.nor_region.proofs.Following.{found, within, only}
 use Rattle.nor_region.proofs.Laying.{follow-laid, total_len-scaled}
-use Rattle.nor_region.proofs.Stepping.{no_region, region_at}
 
 -- the order changes neither the bytes nor what holds of each region
 pub total_len-in_order : (reversed : Bool) (regions : List Region) → total_len (in_order reversed regions) ≡ total_len regions
@@ -75,16 +74,6 @@ scaled_map lanes regions some few chip is =
       sizes = All-map (λ region. 0 < region.size) (scaled_region lanes) regions (λ k d less. scaled_some lanes (get_or regions k d).size some (is.sizes k d less));
       total = omega arith;
     }
-
--- four times a block of one chip is no wider than 2 ^ 29 bytes
-pub scaled_size : (lanes i : ℕ) (regions : List Region) → IsMap regions → lanes ≤ 4 → total_len regions ≤ 2 ^ 27 → i < length regions → lanes * (region_at regions i).size ≤ 2 ^ 29
-scaled_size lanes i regions is few chip less =
-    let region = region_at regions i in
-    let part : region.count * region.size ≤ total_len regions = get_or-le-sum_by region_len regions i no_region less in
-    let count = is.counts i no_region less in
-    let one : 1 * region.size ≤ region.count * region.size = mul-le-mul_right region.size (let some : 1 ≤ region.count = omega arith in some) in
-    let wide : lanes * region.size ≤ 4 * region.size = mul-le-mul_right region.size few in
-    omega arith
 
 module _ (regions : List Region) where
   -- the block of a place is a block of the map, has the place, and no other has it

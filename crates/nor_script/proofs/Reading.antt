@@ -10,10 +10,6 @@ use Rattle.nor_script.specs.declared.error.ScriptError.{ScriptError}
 use Rattle.nor_script.specs.declared.error.ScriptError.TheVariants.{TooManyLines}
 use Rattle.nor_script.proofs.Fields.{IsCut, is_cut}
 
-pub before_nothing : (r : Result (List Line) ScriptError) → before_rest [] r ≡ r
-before_nothing (Ok lines) = refl
-before_nothing (Err error) = refl
-
 before_both : (xs ys : List Line) (r : Result (List Line) ScriptError) → before_rest xs (before_rest ys r) ≡ before_rest (xs ++ ys) r
 before_both xs ys (Ok lines) = ap (λ (zs : List Line). Ok zs) (sym (append_assoc xs ys lines))
 before_both xs ys (Err error) = refl

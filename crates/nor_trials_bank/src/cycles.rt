@@ -86,11 +86,14 @@ const NO_LOCKS: [Cost; 3] = [
 ];
 
 #[test]
-fn calls_of_one_chip_make_so_many_cycles(rt: HostRuntime) -> Result<(), Fail> {
+fn calls_of_set_1_make_so_many_cycles(rt: HostRuntime) -> Result<(), Fail> {
+    let alloc = rt.alloc();
     let one = ones(1, X16, intel_table());
-    takes(&rt, rt.alloc(), &one, &ONE_CHIP)?;
+    takes(&rt, alloc, &one, &ONE_CHIP)?;
+    takes(&rt, alloc, &one, &LOADS_OF_ONE)?;
+    takes(&rt, alloc, &ones(2, X16, intel_table()), &TWO_CHIPS)?;
     let no_locks = ones(1, X16, with(intel_table(), &[(0x36, 2)]));
-    takes(&rt, rt.alloc(), &no_locks, &NO_LOCKS)
+    takes(&rt, alloc, &no_locks, &NO_LOCKS)
 }
 
 // Of set 0002 a lock is read in six cycles and set in seven.
@@ -115,6 +118,68 @@ const LOADS_OF_FOUR: [Cost; 4] = [
     (1, Fill(0x3000, 4096, 0), 1318, 1318),
 ];
 
+// Each of four blocks asks for its lock.
+const LOADS_OF_ONE: [Cost; 7] = [
+    (1, Unlock(1), 3, 3),
+    (1, Fill(0x400, 512, 0), 643, 643),
+    (1, Unlock(4), 3, 3),
+    (1, Unlock(5), 3, 3),
+    (1, Unlock(6), 3, 3),
+    (1, Unlock(7), 3, 3),
+    (1, Fill(0x1000, 4096, 0), 5132, 5132),
+];
+
+// Two chips are asked at once: what changes is how many words there are.
+const TWO_CHIPS: [Cost; 14] = [
+    (1, Read(0, 4096), 1024, 1024),
+    (1, Unlock(0), 3, 3),
+    (1, Unlock(1), 3, 3),
+    (1, Program(0x800, &[0, 0]), 11, 11),
+    (1, Fill(0x840, 64, 0), 43, 43),
+    (1, Fill(0xA00, 512, 0), 323, 323),
+    (1, Unlock(2), 3, 3),
+    (1, Unlock(3), 3, 3),
+    (1, Fill(0x1000, 4096, 0), 2566, 2566),
+    (1, Open(0), 6, 6),
+    (1, Poll, 2, 2),
+    (2, Read(0x800, 2), 7, 7),
+    (2, Read(0x800, 1024), 256, 256),
+    (1, Poll, 3, 3),
+];
+
+// One chip tells by a single read that its program has ended: a program polls once less.
+const ONE_OF_SET_2: [Cost; 13] = [
+    (1, Read(0, 4096), 2048, 2048),
+    (1, Lock(0), 7, 7),
+    (1, Unlock(0), 7, 7),
+    (1, IsLocked(0), 6, 6),
+    (1, Fill(0x840, 64, 0), 86, 86),
+    (1, Fill(0xA00, 512, 0), 646, 646),
+    (1, Fill(0x1000, 4096, 0), 5144, 5144),
+    (1, Open(0), 12, 12),
+    (2, Read(0x400, 2), 7, 7),
+    (2, Read(0x400, 1024), 512, 512),
+    (2, Program(0x400, &[0]), 14, 14),
+    (1, Poll, 3, 3),
+    (1, Poll, 3, 3),
+];
+
+const TWO_OF_SET_2: [Cost; 13] = [
+    (1, Read(0, 4096), 1024, 1024),
+    (1, Lock(0), 7, 7),
+    (1, Unlock(0), 7, 7),
+    (1, IsLocked(0), 6, 6),
+    (1, Fill(0x840, 64, 0), 47, 47),
+    (1, Fill(0xA00, 512, 0), 334, 334),
+    (1, Fill(0x1000, 4096, 0), 2636, 2636),
+    (1, Open(0), 12, 12),
+    (2, Read(0x800, 4), 7, 7),
+    (2, Read(0x800, 1024), 256, 256),
+    (2, Program(0x800, &[0]), 15, 15),
+    (1, Poll, 3, 3),
+    (1, Poll, 3, 3),
+];
+
 // What is nearly over ends beside the read, and a poll that knows the end makes no cycle.
 const ENDED: [Cost; 6] = [
     (1, Open(0), 12, 12),
@@ -131,6 +196,8 @@ const ALL: [Cost; 2] = [(1, OpenAll, 54, 80 + 8 * 8), (1, Poll, 2, 12)];
 #[test]
 fn calls_of_set_2_make_so_many_cycles(rt: HostRuntime) -> Result<(), Fail> {
     let alloc = rt.alloc();
+    takes(&rt, alloc, &ones(1, X16, amd_table()), &ONE_OF_SET_2)?;
+    takes(&rt, alloc, &ones(2, X16, amd_table()), &TWO_OF_SET_2)?;
     takes(&rt, alloc, &four(), &FOUR_CHIPS)?;
     takes(&rt, alloc, &four(), &LOADS_OF_FOUR)?;
     takes(&rt, alloc, &four(), &ENDED)?;

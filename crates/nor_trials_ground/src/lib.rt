@@ -1,11 +1,9 @@
-//! Trials of the crates on which all others stand: files and output, bus words and lanes, cells and blocks,
-//! scripts, and the plain array. It has tests only.
+//! Trials of the crates on which all others stand: files and output, bus words and lanes, cells and blocks.
+//! It has tests only.
 //!
 //! Tables of rows go through their public calls. What a clause says of every value, a row shows of one.
 #![tactic(auto)]
 
-#[cfg(test)]
-mod arrays;
 #[cfg(test)]
 mod cells;
 #[cfg(test)]
@@ -14,7 +12,5 @@ mod io;
 mod lanes;
 #[cfg(test)]
 mod regions;
-#[cfg(test)]
-mod scripts;
 #[cfg(test)]
 mod words;
