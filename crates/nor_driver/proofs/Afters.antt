@@ -6,12 +6,11 @@ use Rattle.nor_array.specs.declared.entry.Entry.{Entry}
 use Rattle.nor_array.specs.declared.entry.Halted.{Halted as HaltCause}
 use Rattle.nor_array.specs.declared.entry.Halted.TheVariants.{Off as OffHalt, Stuck as StuckHalt}
 use Rattle.nor_array.specs.declared.entry.Op.{Op}
-use Rattle.nor_array.specs.declared.entry.Op.TheVariants.{Read, Program, EraseOpen, EraseAll, Poll, Lock, Unlock, Arm, PowerOn}
+use Rattle.nor_array.specs.declared.entry.Op.TheVariants.{Program, EraseOpen, EraseAll, Poll, Lock, Unlock, Arm, PowerOn}
 use Rattle.nor_array.specs.declared.entry.Reply.{Reply}
 use Rattle.nor_array.specs.declared.entry.Reply.TheVariants.{Done, Opened, Erased, Failed, Halted}
 use Rattle.nor_array.specs.declared.state.Power.{Power}
 use Rattle.nor_array.specs.declared.state.Power.TheVariants.{On}
-use Rattle.nor_array.proofs.Unlocked.{is_range}
 use Rattle.nor_driver.specs.Fronts.{is_call}
 use Rattle.nor_driver.proofs.Replies.{false_true}
 
@@ -94,10 +93,3 @@ reply_on reply e a call on = on
 
 pub was_on : (a : ArrayState) (e : Entry) → is_call e.op ≡ true → (after a e).power ≡ On → a.power ≡ On
 was_on a e call on = reply_on e.reply e a call on
-
--- ---- reads and programs
-
-pub range_call : (op : Op) → is_range op ≡ true → is_call op ≡ true
-range_call (Read at len) range = refl
-range_call (Program at new) range = refl
-range_call op range = absurd (false_true range)

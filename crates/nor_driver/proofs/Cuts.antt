@@ -15,10 +15,7 @@ use Rattle.nor_bank.specs.State.{BankState}
 use Rattle.nor_bank.proofs.Using.{UsesBus, NoFurther}
 use Rattle.nor_driver.specs.Fronts.{is_call, words_of, cycles_left}
 use Rattle.nor_driver.proofs.Afters.{power_not_on, was_on}
-
-pub on_runs : (kept : Option HaltCause) → kept_power kept ≡ On → kept ≡ None
-on_runs None on = refl
-on_runs (Some cause) on = absurd (power_not_on cause on)
+use Rattle.nor_bank.proofs.RangeCalls.{on_runs}
 
 pub on_bus : (b : BankState) (a : ArrayState) → Stands b a → a.power ≡ On → b.bus.power ≡ true
 on_bus b a stands on =

@@ -1,13 +1,14 @@
 -- A front with one entry more, and with no more.
-use Rattle.std.proofs.Common.{◌≡◌, ◌<◌, ◌≤◌, ◌+◌, ◌∙◌, ◌++◌, ◌∷◌, ℕ, zero, suc, List, [], true, Option, Some, None, refl, sym, ap, subst, arith, rules}
+use Rattle.std.proofs.Common.{◌≡◌, ◌<◌, ◌≤◌, ◌+◌, ◌∙◌, ◌++◌, ◌∷◌, ℕ, zero, suc, List, [], true, false, Some, None, refl, sym, ap, subst, arith, rules}
 use Rattle.std.specs.Prelude.{All}
-use Rattle.std.proofs.lemmas.List.Elements.{All-push}
+use Rattle.std.proofs.lemmas.List.Elements.{All-nil, All-push}
 use Rattle.nor_cell.specs.Chip.{counted}
 use Rattle.nor_bus.specs.Bus.{lanes_of, more}
 use Rattle.nor_bus.specs.Cycles.{KeepsLanes}
 use Rattle.nor_bus.proofs.Driving.{keeps_then}
 use Rattle.nor_array.specs.Array.{ArrayState}
 use Rattle.nor_array.specs.After.{after, after_all}
+use Rattle.nor_array.specs.Entries.{is_halt}
 use Rattle.nor_array.specs.Legal.{Facts, Agrees, Legal}
 use Rattle.nor_array.specs.declared.entry.Entry.{Entry}
 use Rattle.nor_array.proofs.Histories.{after_last, legal_more}
@@ -16,12 +17,13 @@ use Rattle.nor_bank.specs.State.{BankState, word_bytes}
 use Rattle.nor_turn.specs.Fronts.{Name, Front}
 use Rattle.nor_bank.specs.Stands.{Stands}
 use Rattle.nor_bank.proofs.Keeping.{keeps_self}
-use Rattle.nor_bank.proofs.Keeping.{stays_self, stays_on}
 use Rattle.nor_bank.proofs.Lasting.{facts_last}
-use Rattle.nor_driver.specs.Fronts.{StandsFrom, StandsFor, entries_of, is_call, opens, loses, words_of, opened, lost, words_read, risen, opener_after, ClosesOwn, AllCloseOwn, cycles_left}
-use Rattle.nor_driver.specs.Made.{GoesOn, Rests}
+use Rattle.nor_driver.specs.Fronts.{StandsFrom, StandsFor, entries_of, is_call, opens, loses, words_of, opened, lost, words_read, risen, cycles_left}
 use Rattle.nor_driver.proofs.Afters.{same_armed}
+use Rattle.nor_driver.proofs.Calls.{GoesOn, Rests}
 use Rattle.nor_driver.proofs.Cuts.{left_within}
+use Rattle.nor_driver.proofs.Owning.{keeper_of}
+use Rattle.nor_history.proofs.Histories.{risen_then}
 
 -- ---- lists
 
@@ -44,16 +46,6 @@ words_last w (x ∷ es) e = let h = words_last w es e in omega arith
 all_last : (P : Entry → Type 0) (es : List Entry) (e : Entry) → All P es → P e → All P (es ++ e ∷ [])
 all_last P es e all one = All-push P es e all one
 
-risen_add : (n j k : ℕ) → risen (risen n j) k ≡ risen n (j + k)
-risen_add n j zero = let h : j ≡ j + 0 = omega arith in ap (risen n) h
-risen_add n j (suc k) = let h : suc (j + k) ≡ j + suc k = omega arith in ap counted (risen_add n j k) ∙ ap (risen n) h
-
-closes_last : (opener : Option Name) (front : Front Entry) (name : Name) (e : Entry) → AllCloseOwn opener front
-    → ((o : Option Name) → ClosesOwn o name e.reply e.op) → AllCloseOwn opener (front ++ (name, e) ∷ [])
-closes_last opener [] name e all one = (one opener, tt)
-closes_last opener (p ∷ front) name e all one =
-    (all.0, closes_last (opener_after opener p.0 p.1.reply p.1.op) front name e all.1 one)
-
 -- ---- what no call changes
 
 same_facts : (old new : BankState) → new.found ≡ old.found → KeepsLanes old.bus new.bus → facts_of new ≡ facts_of old
@@ -61,19 +53,18 @@ same_facts old new found lanes = facts_last old new found lanes.count (λ c belo
 
 -- ---- no entry yet
 
-pub stands_first : (b : BankState) → StandsFor b [] b
-stands_first b = record {
+pub stands_first : (b : BankState) → b.erase ≡ None → StandsFor b [] b
+stands_first b closed = record {
   keeps = keeps_self b;
+  erase = record { own = tt; opener = sym (ap keeper_of closed); running = λ run. All-nil (λ (pair : Name × Entry). is_halt pair.1.reply ≡ false) };
   each = λ a stands. record {
     stands = stands;
     legal = tt;
     calls = search rules;
-    closes = tt;
     found = refl;
     lanes = record { count = refl; each = λ c below. record { part = refl; size = refl; locks = refl; bytes = λ small. small } };
     erases = λ c below. refl;
-    closed = λ none. none;
-    stays = λ none c below. stays_self _;
+    suspends = λ none c below. refl;
     failed = omega arith;
     reads = λ cut armed. let left = left_within b a cut stands armed in omega (arith, left);
   };
@@ -82,8 +73,8 @@ stands_first b = record {
 -- ---- one entry more
 
 pub stands_more : (first now next : BankState) (a : ArrayState) (front : Front Entry) (name : Name) (e : Entry)
-    → StandsFrom first a front now → GoesOn now next e (after_all a (entries_of front)) → StandsFrom first a (front ++ (name, e) ∷ []) next
-stands_more first now next a front name e so goes =
+    → StandsFrom first a front now → (opened (entries_of front) ≡ 0 → now.erase ≡ None) → GoesOn now next e (after_all a (entries_of front)) → StandsFrom first a (front ++ (name, e) ∷ []) next
+stands_more first now next a front name e so under goes =
     let es : List Entry = entries_of front in
     let whole : entries_of (front ++ (name, e) ∷ []) ≡ es ++ e ∷ [] = entries_last front name e in
     let then : after_all a (entries_of (front ++ (name, e) ∷ [])) ≡ after (after_all a es) e = ap (after_all a) whole ∙ after_last a es e in
@@ -92,16 +83,16 @@ stands_more first now next a front name e so goes =
       stands = subst (Stands next) (sym then) goes.stands;
       legal = subst (Legal (facts_of first) a) (sym whole) (legal_more (facts_of first) a es e so.legal goes.admitted agrees);
       calls = subst (All (λ (x : Entry). is_call x.op ≡ true)) (sym whole) (all_last (λ (x : Entry). is_call x.op ≡ true) es e so.calls goes.call);
-      closes = closes_last None front name e so.closes (λ o. goes.closes name o);
       found = goes.found ∙ so.found;
       lanes = keeps_then first.bus now.bus next.bus so.lanes goes.lanes;
       erases = λ c below.
           let there : c < lanes_of now.bus = subst (λ (n : ℕ). c < n) (sym so.lanes.count) below in
           let mid = so.erases c below in
           let last = goes.erases c there in
-          last ∙ (ap (λ (n : ℕ). risen n (opens e.reply)) mid ∙ (risen_add _ (opened es) (opens e.reply) ∙ ap (risen _) (sym (ap opened whole ∙ opened_last es e))));
-      closed = λ none. goes.closed (so.closed none);
-      stays = λ none. stays_on first.bus now.bus next.bus so.lanes.count (so.stays none) (goes.stays (so.closed none));
+          last ∙ (ap (λ (n : ℕ). risen n (opens e.reply)) mid ∙ (risen_then _ (opened es) (opens e.reply) ∙ ap (risen _) (sym (ap opened whole ∙ opened_last es e))));
+      suspends = λ none c below.
+          let earlier : opened es ≡ 0 = none_earlier (opened (entries_of (front ++ (name, e) ∷ []))) (opened es) (opens e.reply) (ap opened whole ∙ opened_last es e) none in
+          goes.suspends (under earlier) c (subst (λ (n : ℕ). c < n) (sym so.lanes.count) below) ∙ so.suspends earlier c below;
       failed = failed_more (lost (entries_of (front ++ (name, e) ∷ []))) (lost es) (loses e.reply) first.bus.failed now.bus.failed next.bus.failed (ap lost whole ∙ lost_last es e) so.failed goes.failed;
       reads = λ cut is.
           let before : (after_all a es).armed ≡ Some cut = sym (ap (λ (x : ArrayState). x.armed) then ∙ same_armed (after_all a es) e goes.call) ∙ is in
@@ -113,6 +104,9 @@ stands_more first now next a front name e so goes =
           (ap (λ (x : ArrayState). cycles_left x.power next.bus.armed) then);
     }
   where
+    none_earlier : (all n k : ℕ) → all ≡ n + k → all ≡ 0 → n ≡ 0
+    none_earlier all n k is none = omega (arith, is, none)
+
     failed_more : (n k j f g h : ℕ) → n ≡ k + j → more k f ≤ g → more j g ≤ h → more n f ≤ h
     failed_more n k j f g h is one two = omega (arith, is, one, two)
 
@@ -123,17 +117,15 @@ stands_more first now next a front name e so goes =
 
 -- what is waited out leaves a bank that stands for the same front
 pub stands_still : (first now next : BankState) (a : ArrayState) (front : Front Entry)
-    → StandsFrom first a front now → Rests now next (after_all a (entries_of front)) → StandsFrom first a front next
-stands_still first now next a front so rests = record {
+    → StandsFrom first a front now → (opened (entries_of front) ≡ 0 → now.erase ≡ None) → Rests now next (after_all a (entries_of front)) → StandsFrom first a front next
+stands_still first now next a front so under rests = record {
   stands = rests.stands;
   legal = so.legal;
   calls = so.calls;
-  closes = so.closes;
   found = rests.found ∙ so.found;
   lanes = keeps_then first.bus now.bus next.bus so.lanes rests.lanes;
   erases = λ c below. rests.erases c (subst (λ (n : ℕ). c < n) (sym so.lanes.count) below) ∙ so.erases c below;
-  closed = λ none. rests.closed (so.closed none);
-  stays = λ none. stays_on first.bus now.bus next.bus so.lanes.count (so.stays none) (rests.stays (so.closed none));
+  suspends = λ none c below. rests.suspends (under none) c (subst (λ (n : ℕ). c < n) (sym so.lanes.count) below) ∙ so.suspends none c below;
   failed = no_fewer (lost (entries_of front)) first.bus.failed now.bus.failed next.bus.failed so.failed rests.failed;
   reads = λ cut is. let before = so.reads cut is in let left = rests.reads in omega (arith, before, left);
 }

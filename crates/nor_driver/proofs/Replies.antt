@@ -1,36 +1,19 @@
 -- What replies tell.
-use Rattle.std.proofs.Common.{◌≡◌, ◌≢◌, ◌≤◌, ◌∙◌, ℕ, List, Bool, true, false, refl, sym, ap}
+use Rattle.std.proofs.Common.{◌≡◌, ◌≢◌, ◌≤◌, ◌∙◌, ℕ, List, true, false, refl, sym, ap}
 use Rattle.nor_bus.specs.Bus.{more}
 use Rattle.nor_array.specs.Entries.{IsAwaited}
 use Rattle.nor_array.specs.declared.entry.Halted.TheVariants.{Off as OffHalt}
 use Rattle.nor_array.specs.declared.entry.Op.{Op}
 use Rattle.nor_array.specs.declared.entry.Reply.{Reply}
-use Rattle.nor_array.specs.declared.entry.Reply.TheVariants.{Done, Opened, OutOfRange, TooLong, Busy, Occupied, Locked, Nothing, NotYet, Failed, Halted}
+use Rattle.nor_array.specs.declared.entry.Reply.TheVariants.{Done, Nothing, Halted}
 use Rattle.nor_bank.specs.Calls.{entry_bytes}
 use Rattle.nor_bank.specs.State.{BankState}
-use Rattle.nor_bank.proofs.RangeCalls.{is_plain}
 use Rattle.nor_driver.specs.Callers.{Gives}
-use Rattle.nor_driver.specs.Fronts.{opens, loses}
+use Rattle.nor_driver.specs.Fronts.{loses}
 use Rattle.nor_driver.specs.Made.{is_waited_out}
 
 pub false_true : false ≡ true → ⊥
 false_true is = cc
-
--- a plain reply isn't one that isn't
-pub plain_other : (r s : Reply) → is_plain r ≡ true → is_plain s ≡ false → r ≢ s
-plain_other r s plain other is = false_true (sym other ∙ (ap is_plain (sym is) ∙ plain))
-
-pub plain_given : (r : Reply) → is_plain r ≡ true → is_waited_out r ≡ true → ⊥
-plain_given NotYet plain waits = false_true plain
-plain_given (Occupied b) plain waits = false_true plain
-plain_given r plain waits = false_true waits
-
-pub plain_opens : (r : Reply) → is_plain r ≡ true → opens r ≡ 0
-plain_opens Opened plain = absurd (false_true plain)
-plain_opens r plain = refl
-
-pub not_nothing : NotYet ≡ Nothing → ⊥
-not_nothing is = cc
 
 -- what isn't waited out is awaited
 pub given_awaited : (r : Reply) → is_waited_out r ≡ false → r ≢ Nothing → IsAwaited r

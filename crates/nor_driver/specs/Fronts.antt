@@ -1,12 +1,13 @@
 -- When a bank under the lock stands for a front of the history.
-use Rattle.std.specs.Prelude.{◌≡◌, ◌≤◌, ◌+◌, ℕ, zero, suc, List, [], ◌∷◌, map, Bool, true, false, Option, Some, None, All}
-use Rattle.nor_cell.specs.Chip.{counted}
+use Rattle.std.specs.Prelude.{◌≡◌, ◌≤◌, ◌+◌, ℕ, List, [], ◌∷◌, map, Bool, true, false, Option, Some, None, All}
+use Rattle.std.specs.Option.{option_map}
 use Rattle.nor_bus.specs.Bus.{more}
 use Rattle.nor_bus.specs.Cycles.{KeepsLanes}
 use Rattle.nor_bus.specs.Driven.{EachLane}
 use Rattle.nor_bus.specs.declared.bus.Armed.{Armed}
 use Rattle.nor_array.specs.Array.{ArrayState}
 use Rattle.nor_array.specs.After.{after_all}
+use Rattle.nor_array.specs.Entries.{is_halt}
 use Rattle.nor_array.specs.Legal.{Legal}
 use Rattle.nor_array.specs.declared.entry.Entry.{Entry}
 use Rattle.nor_array.specs.declared.entry.Halted.TheVariants.{Off as OffHalt}
@@ -18,10 +19,12 @@ use Rattle.nor_array.specs.declared.state.ArmedCut.{ArmedCut}
 use Rattle.nor_array.specs.declared.state.Power.{Power}
 use Rattle.nor_array.specs.declared.state.Power.TheVariants.{On, Off, Stuck}
 use Rattle.nor_bank.specs.Calls.{facts_of}
+pub use Rattle.nor_history.specs.Histories.{opens, opened, risen}
 use Rattle.nor_bank.specs.Ranges.{words_met}
 use Rattle.nor_bank.specs.Stands.{Stands}
 use Rattle.nor_bank.specs.State.{BankState, word_bytes}
-use Rattle.nor_bank.specs.Work.{KeepsBank, StaysFiled}
+use Rattle.nor_bank.specs.Work.{KeepsBank}
+use Rattle.nor_bank.specs.declared.kept.Erasing.{Erasing}
 use Rattle.nor_turn.specs.Fronts.{Name, Front}
 
 -- ---- what is told of entries
@@ -43,11 +46,7 @@ is_call (IsLocked b) = true
 is_call (Arm cut mask) = false
 is_call PowerOn = false
 
--- 1 for a reply that opens an erase, and 1 for one that tells a loss of power
-abbrev pub opens : Reply → ℕ
-opens Opened = 1
-opens _ = 0
-
+-- 1 for a reply that tells a loss of power
 abbrev pub loses : Reply → ℕ
 loses (HaltedReply (OffHalt n)) = 1
 loses _ = 0
@@ -58,10 +57,6 @@ words_of w Done (Read at len) = words_met at len w
 words_of w _ op = 0
 
 -- the same of all entries
-abbrev pub opened : List Entry → ℕ
-opened [] = 0
-opened (e ∷ es) = opens e.reply + opened es
-
 abbrev pub lost : List Entry → ℕ
 lost [] = 0
 lost (e ∷ es) = loses e.reply + lost es
@@ -70,32 +65,56 @@ abbrev pub words_read : ℕ → List Entry → ℕ
 words_read w [] = 0
 words_read w (e ∷ es) = words_of w e.reply e.op + words_read w es
 
--- a counter of 32 bits that has risen so often, and stays at its last value
-abbrev pub risen : ℕ → ℕ → ℕ
-risen count zero = count
-risen count (suc k) = counted (risen count k)
+-- ---- who has an erase under way
 
--- ---- who closes an erase
+-- the name and the number under which it was opened
+pub record Opener : Type 0 where
+  pub name : Name
+  pub caller : ℕ
 
--- whose erase is under way after an entry
-abbrev pub opener_after : Option Name → Name → Reply → Op → Option Name
-opener_after opener name Opened op = Some name
-opener_after opener name Erased op = None
-opener_after opener name (Failed from to lanes) Poll = None
-opener_after opener name (HaltedReply cause) op = None
-opener_after opener name _ op = opener
+-- the reply ends the erase that was polled
+abbrev pub closes : Reply → Op → Bool
+closes Erased Poll = true
+closes (Failed from to lanes) Poll = true
+closes _ op = false
 
--- An erase is closed under the name under which it was opened.
-abbrev pub ClosesOwn : Option Name → Name → Reply → Op → Type 0
-ClosesOwn opener name Erased op = opener ≡ Some name
-ClosesOwn opener name (Failed from to lanes) Poll = opener ≡ Some name
-ClosesOwn opener name _ op = Unit {0}
+-- whose erase is under way after an entry: a halt gives it up
+abbrev pub opener_after : Option Opener → Name → (caller : ℕ) → Reply → Op → Option Opener
+opener_after opener name caller Opened op = Some (record { name = name; caller = caller })
+opener_after opener name caller Erased Poll = None
+opener_after opener name caller (Failed from to lanes) Poll = None
+opener_after opener name caller (HaltedReply cause) op = None
+opener_after opener name caller _ op = opener
 
-abbrev pub AllCloseOwn : Option Name → Front Entry → Type 0
-AllCloseOwn opener [] = Unit {0}
-AllCloseOwn opener (pair ∷ front) =
-    ClosesOwn opener pair.0 pair.1.reply pair.1.op
-    × AllCloseOwn (opener_after opener pair.0 pair.1.reply pair.1.op) front
+-- and after a front
+abbrev pub opener_of : Option Opener → Front Entry → Option Opener
+opener_of opener [] = opener
+opener_of opener (pair ∷ front) =
+    opener_of (opener_after opener pair.0 pair.1.caller pair.1.reply pair.1.op) front
+
+abbrev pub IsOpener : Name → Option Opener → Type 0
+IsOpener name None = ⊥
+IsOpener name (Some opener) = opener.name ≡ name
+
+-- An erase is opened where none is under way, and closed under the name under which it was opened.
+abbrev pub ErasesOwn : Option Opener → Name → Reply → Op → Type 0
+ErasesOwn opener name Opened op = opener ≡ None
+ErasesOwn opener name Erased Poll = IsOpener name opener
+ErasesOwn opener name (Failed from to lanes) Poll = IsOpener name opener
+ErasesOwn opener name _ op = Unit {0}
+
+abbrev pub AllEraseOwn : Option Opener → Front Entry → Type 0
+AllEraseOwn opener [] = Unit {0}
+AllEraseOwn opener (pair ∷ front) =
+    ErasesOwn opener pair.0 pair.1.reply pair.1.op
+    × AllEraseOwn (opener_after opener pair.0 pair.1.caller pair.1.reply pair.1.op) front
+
+-- What a bank keeps of an erase, and of a halt, is what the front tells of them.
+pub record TellsErase (front : Front Entry) (now : BankState) : Type 0 where
+  pub own : AllEraseOwn None front
+  pub opener : option_map (λ (o : Opener). o.caller) (opener_of None front)
+      ≡ option_map (λ (e : Erasing). e.caller) now.erase
+  pub running : now.halted ≡ None → All (λ pair. is_halt pair.1.reply ≡ false) front
 
 -- ---- an armed cut
 
@@ -109,27 +128,25 @@ cycles_left (Stuck lane) armed = 0
 -- ---- the whole
 
 -- The bank went from one that stands for this array to one that stands for the array after the front. Its entries are
--- legal calls, and each closes no erase but its own. The chips are what they were, but that each erase that was opened is
--- counted. A cycle failed for each loss of power that was told. While a cut is armed, the words that were read and the
+-- legal calls. The chips are what they were, but that each erase that was opened is counted; where none was, no lane was
+-- suspended. A cycle failed for each loss of power that was told. While a cut is armed, the words that were read and the
 -- cycles that are left of it are no more than it was armed with.
 pub record StandsFrom (first : BankState) (a : ArrayState) (front : Front Entry) (now : BankState) : Type 0 where
   pub stands : Stands now (after_all a (entries_of front))
   pub legal : Legal (facts_of first) a (entries_of front)
   pub calls : All (λ e. is_call e.op ≡ true) (entries_of front)
-  pub closes : AllCloseOwn None front
   pub found : now.found ≡ first.found
   pub lanes : KeepsLanes first.bus now.bus
   pub erases : EachLane (λ s t. t.erases ≡ risen s.erases (opened (entries_of front))) first.bus now.bus
-  -- Today no call changes more of a file than its bytes. This goes when erases and locks come; `lanes` and `erases` stay.
-  pub closed : first.erase ≡ None → now.erase ≡ None
-  pub stays : first.erase ≡ None → EachLane StaysFiled first.bus now.bus
+  pub suspends : opened (entries_of front) ≡ 0 → EachLane (λ s t. t.suspends ≡ s.suspends) first.bus now.bus
   pub failed : more (lost (entries_of front)) first.bus.failed ≤ now.bus.failed
   pub reads : (cut : ArmedCut) → (after_all a (entries_of front)).armed ≡ Some cut
       → words_read (word_bytes first.found) (entries_of front)
       + cycles_left (after_all a (entries_of front)).power now.bus.armed ≤ cut.after
 
--- A bank stands for a front of what was made of the first one. Of a first bank that stood for no array it says only
--- what no call changes.
+-- A bank stands for a front of what was made of the first one, which had nothing under erase. Each erase was closed by
+-- who opened it. Of a first bank that stood for no array it says, beside that, only what no call changes.
 pub record StandsFor (first : BankState) (front : Front Entry) (now : BankState) : Type 0 where
   pub keeps : KeepsBank first now
+  pub erase : TellsErase front now
   pub each : (a : ArrayState) → Stands first a → StandsFrom first a front now

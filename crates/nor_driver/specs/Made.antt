@@ -1,24 +1,15 @@
--- Words of the driver's own functions: what a call of a bank makes, and a caller that waits.
-use Rattle.std.specs.Prelude.{◌≡◌, ◌≤◌, ◌+◌, Bool, true, false, Option, Some, None}
-use Rattle.nor_bus.specs.Bus.{more}
-use Rattle.nor_bus.specs.Cycles.{KeepsLanes}
-use Rattle.nor_bus.specs.Driven.{EachLane}
-use Rattle.nor_array.specs.Array.{ArrayState}
-use Rattle.nor_array.specs.After.{after}
-use Rattle.nor_array.specs.Admits.{Admits}
-use Rattle.nor_array.specs.Legal.{Agrees}
+-- Words of the driver's own functions: a call of a bank, and a caller that waits.
+use Rattle.std.specs.Prelude.{◌≡◌, ◌+◌, Bool, true, false}
+use Rattle.nor_bus.specs.Driven.{Went}
 use Rattle.nor_array.specs.declared.entry.Entry.{Entry}
+use Rattle.nor_array.specs.declared.entry.Op.{Op}
+use Rattle.nor_array.specs.declared.entry.Op.TheVariants.{Read, Poll}
 use Rattle.nor_array.specs.declared.entry.Reply.{Reply}
-use Rattle.nor_array.specs.declared.entry.Reply.TheVariants.{NotYet, Occupied}
-use Rattle.nor_array.specs.declared.state.ArmedCut.{ArmedCut}
-use Rattle.nor_bank.specs.Calls.{facts_of}
-use Rattle.nor_bank.specs.Stands.{Stands}
-use Rattle.nor_bank.specs.State.{BankState, word_bytes}
-use Rattle.nor_bank.specs.Work.{StaysFiled}
-use Rattle.nor_driver.specs.Fronts.{is_call, opens, risen, loses, words_of, cycles_left, ClosesOwn}
-use Rattle.nor_turn.specs.Fronts.{Name}
+use Rattle.nor_array.specs.declared.entry.Reply.TheVariants.{Done, NotYet, Occupied}
+use Rattle.nor_bank.specs.State.{BankState}
+use Rattle.nor_bank.specs.Work.{words_in}
 use Rattle.nor_turn.specs.Passes.{PassView}
-use Rattle.nor_driver.specs.Callers.{CallerView}
+use Rattle.nor_driver.specs.Callers.{CallerView, HasOpened}
 
 -- ---- calls of a bank
 
@@ -28,32 +19,19 @@ is_waited_out NotYet = true
 is_waited_out (Occupied block) = true
 is_waited_out _ = false
 
--- One entry more: the array admits it, and the bank stands for the array after it. What else a front counts goes on by it.
-pub record GoesOn (old new : BankState) (e : Entry) (a : ArrayState) : Type 0 where
-  pub admitted : Admits a e
-  pub agrees : Agrees (facts_of old) a e
-  pub stands : Stands new (after a e)
-  pub call : is_call e.op ≡ true
-  pub closes : (name : Name) → (opener : Option Name) → ClosesOwn opener name e.reply e.op
-  pub found : new.found ≡ old.found
-  pub lanes : KeepsLanes old.bus new.bus
-  pub erases : EachLane (λ s t. t.erases ≡ risen s.erases (opens e.reply)) old.bus new.bus
-  pub closed : old.erase ≡ None → new.erase ≡ None
-  pub stays : old.erase ≡ None → EachLane StaysFiled old.bus new.bus
-  pub failed : more (loses e.reply) old.bus.failed ≤ new.bus.failed
-  pub reads : (cut : ArmedCut) → a.armed ≡ Some cut
-      → words_of (word_bytes old.found) e.reply e.op + cycles_left (after a e).power new.bus.armed ≤ cycles_left a.power old.bus.armed
+abbrev pub is_poll : Op → Bool
+is_poll Poll = true
+is_poll _ = false
 
--- No entry: the bank stands for the same array. All that a front counts is as it was, an armed cut no further away.
-pub record Rests (old new : BankState) (a : ArrayState) : Type 0 where
-  pub stands : Stands new a
-  pub found : new.found ≡ old.found
-  pub lanes : KeepsLanes old.bus new.bus
-  pub erases : EachLane (λ s t. t.erases ≡ s.erases) old.bus new.bus
-  pub closed : old.erase ≡ None → new.erase ≡ None
-  pub stays : old.erase ≡ None → EachLane StaysFiled old.bus new.bus
-  pub failed : more 0 old.bus.failed ≤ new.bus.failed
-  pub reads : cycles_left a.power new.bus.armed ≤ cycles_left a.power old.bus.armed
+-- a read that is done made a cycle for each bus word that it meets
+abbrev pub ReadsWords : Op → Reply → (old new : BankState) → Type 0
+ReadsWords (Read at len) Done old new = Went (words_in old at len) (60 + words_in old at len) old.bus new.bus
+ReadsWords op reply old new = Unit {0}
+
+-- A caller may poll for an erase that it opened, and is about to close.
+pub record MayPoll (c : CallerView) : Type 0 where
+  pub opened : HasOpened c.pass.name c.number c.pass.seen
+  pub closing : c.erasing ≡ false
 
 -- ---- waiting
 
@@ -72,3 +50,4 @@ pub record IsSame (p q : PassView BankState Entry) : Type 0 where
 pub record IsSameCaller (c d : CallerView) : Type 0 where
   pub number : d.number ≡ c.number
   pub pass : IsSame c.pass d.pass
+  pub erasing : d.erasing ≡ c.erasing

@@ -1,12 +1,10 @@
 //! A call of the bank, as the driver makes it in a turn.
-ghost use Rattle.std.specs.Prelude.{◌≡◌, ◌≢◌, ◌<◌, ℕ, true, false, length};
-ghost use Rattle.nor_array.specs.Array.{ArrayState};
+ghost use Rattle.std.specs.Prelude.{◌≡◌, ◌<◌, ℕ, true, length};
 ghost use Rattle.nor_array.specs.declared.entry.Op.{Op};
-ghost use Rattle.nor_array.specs.declared.entry.Reply.TheVariants.{Nothing};
-ghost use Rattle.nor_bank.specs.Calls.{entry_of};
-ghost use Rattle.nor_bank.specs.Stands.{Stands};
-ghost use Rattle.nor_bank.specs.Work.{KeepsBank};
-ghost use Rattle.nor_driver.specs.Made.{GoesOn, Rests, is_waited_out};
+ghost use Rattle.nor_bank.specs.Calls.{entry_of, given_by};
+ghost use Rattle.nor_bank.specs.Whole.{IsCallOf};
+ghost use Rattle.nor_driver.specs.Fronts.{is_call};
+ghost use Rattle.nor_driver.specs.Made.{ReadsWords, is_waited_out};
 
 use crate::held::Held;
 use nor_array::Reply;
@@ -28,16 +26,12 @@ pub(crate) trait Call<W: BusWord, B: Bus<W>> {
     /// What it asks for, where so many bytes are to be filled.
     ghost op: { Self → ℕ → Op };
 
-    /// Makes the call. Where its reply is waited out, the bank is left as it stands. It is never answered
-    /// that there is nothing to poll.
+    /// Makes the call.
     fn make(&self, bank: &mut Bank<W, B>, caller: u8, into: &mut [u8]) -> Reply
-        ensures makes { is_waited_out result ≡ false → (a : ArrayState) → Stands bank.old a
-            → GoesOn bank.old bank.new
-            (entry_of bank.old bank.new caller (op self.now (length into.old)) result into.new) a }
-        ensures rests { is_waited_out result ≡ true → (a : ArrayState) → Stands bank.old a
-            → Rests bank.old bank.new a }
-        ensures some { result ≢ Nothing }
-        ensures keeps { KeepsBank bank.old bank.new }
+        ensures call { IsCallOf caller (op self.now (length into.old)) bank.old bank.new result
+            (given_by (op self.now (length into.old)) into.new) }
+        ensures reads { ReadsWords (op self.now (length into.old)) result bank.old bank.new }
+        ensures kind { is_call (op self.now (length into.old)) ≡ true }
         ensures length { length into.new ≡ length into.old };
 }
 
@@ -89,6 +83,98 @@ impl<'a, W: BusWord, B: Bus<W>> Call<W, B> for Program<'a> {
 
     fn make(&self, bank: &mut Bank<W, B>, caller: u8, _into: &mut [u8]) -> Reply {
         bank.program(caller, self.at, self.from)
+    }
+}
+
+/// Begins to erase a block.
+#[derive(Drop)]
+pub(crate) struct EraseOpen {
+    pub(crate) block: u32,
+}
+
+impl<W: BusWord, B: Bus<W>> Call<W, B> for EraseOpen {
+    ghost use Rattle.nor_array.specs.declared.entry.Op.TheVariants.{EraseOpen as EraseOpenOp};
+
+    ghost op = { λ call len. EraseOpenOp call.block };
+
+    fn make(&self, bank: &mut Bank<W, B>, caller: u8, _into: &mut [u8]) -> Reply {
+        bank.erase_open(caller, self.block)
+    }
+}
+
+/// Begins to erase all blocks at once.
+#[derive(Drop)]
+pub(crate) struct EraseAll;
+
+impl<W: BusWord, B: Bus<W>> Call<W, B> for EraseAll {
+    ghost use Rattle.nor_array.specs.declared.entry.Op.TheVariants.{EraseAll as EraseAllOp};
+
+    ghost op = { λ call len. EraseAllOp };
+
+    fn make(&self, bank: &mut Bank<W, B>, caller: u8, _into: &mut [u8]) -> Reply {
+        bank.erase_all(caller)
+    }
+}
+
+/// Looks at the erase of the caller.
+#[derive(Drop)]
+pub(crate) struct Poll;
+
+impl<W: BusWord, B: Bus<W>> Call<W, B> for Poll {
+    ghost use Rattle.nor_array.specs.declared.entry.Op.TheVariants.{Poll as PollOp};
+
+    ghost op = { λ call len. PollOp };
+
+    fn make(&self, bank: &mut Bank<W, B>, caller: u8, _into: &mut [u8]) -> Reply {
+        bank.poll(caller)
+    }
+}
+
+/// Locks a block.
+#[derive(Drop)]
+pub(crate) struct Lock {
+    pub(crate) block: u32,
+}
+
+impl<W: BusWord, B: Bus<W>> Call<W, B> for Lock {
+    ghost use Rattle.nor_array.specs.declared.entry.Op.TheVariants.{Lock as LockOp};
+
+    ghost op = { λ call len. LockOp call.block };
+
+    fn make(&self, bank: &mut Bank<W, B>, caller: u8, _into: &mut [u8]) -> Reply {
+        bank.lock(caller, self.block)
+    }
+}
+
+/// Unlocks a block.
+#[derive(Drop)]
+pub(crate) struct Unlock {
+    pub(crate) block: u32,
+}
+
+impl<W: BusWord, B: Bus<W>> Call<W, B> for Unlock {
+    ghost use Rattle.nor_array.specs.declared.entry.Op.TheVariants.{Unlock as UnlockOp};
+
+    ghost op = { λ call len. UnlockOp call.block };
+
+    fn make(&self, bank: &mut Bank<W, B>, caller: u8, _into: &mut [u8]) -> Reply {
+        bank.unlock(caller, self.block)
+    }
+}
+
+/// Asks whether a block is locked.
+#[derive(Drop)]
+pub(crate) struct IsLocked {
+    pub(crate) block: u32,
+}
+
+impl<W: BusWord, B: Bus<W>> Call<W, B> for IsLocked {
+    ghost use Rattle.nor_array.specs.declared.entry.Op.TheVariants.{IsLocked as IsLockedOp};
+
+    ghost op = { λ call len. IsLockedOp call.block };
+
+    fn make(&self, bank: &mut Bank<W, B>, caller: u8, _into: &mut [u8]) -> Reply {
+        bank.is_locked(caller, self.block)
     }
 }
 

@@ -7,3 +7,5 @@ pub mod Putting
 pub mod Racing
 pub mod Blank
 pub mod Printing
+pub mod Arming
+pub mod Closing

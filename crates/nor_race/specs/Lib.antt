@@ -1,6 +1,9 @@
+pub mod Noted
+pub mod Tasks
 pub mod Ran
 pub mod Laws
 pub mod Teams
 pub mod Places
+pub mod Cuts
 pub mod Races
 pub mod Told

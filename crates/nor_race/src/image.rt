@@ -3,10 +3,9 @@ ghost use Rattle.std.specs.Prelude.{◌≡◌, ◌≤◌, true, IsErr, IfOk};
 ghost use Rattle.nor_bus.specs.Cycles.{KeepsLanes};
 ghost use Rattle.nor_bus.specs.Driven.{AllLanes};
 ghost use Rattle.nor_image.specs.Loaded.{bus_of, loaded_width};
-ghost use Rattle.nor_run.specs.Built.{are_built};
 ghost use Rattle.nor_run.specs.Causes.{MayHalt};
 ghost use Rattle.nor_run.specs.Scripts.{IsJustLoaded, IsLoaded, HasRoom, HasLetters, EndsRun, Reports, ReportsImage};
-ghost use Rattle.nor_script.specs.Script.{IsScript};
+ghost use Rattle.nor_script.specs.Racing.{IsRaceScript};
 
 use crate::gate::Gate;
 use crate::report::race_bank;
@@ -27,8 +26,7 @@ fn race_loaded<R: Threads + Wait + Sync, G: Gate + Sync, K: Sink>(
     gate: &G,
     out: &mut K,
 ) -> (Loaded, Result<Ran, RunError>)
-    requires script { IsScript script.now }
-    requires built { are_built script.now ≡ true }
+    requires script { IsRaceScript script.now }
     requires loaded { IsJustLoaded (loaded_width loaded) (bus_of loaded) }
     ensures width { loaded_width result.0 ≡ loaded_width loaded }
     ensures ends { EndsRun true (loaded_width loaded) (bus_of loaded).lanes
@@ -65,8 +63,7 @@ pub fn race_image<R: Threads + Wait + Sync, G: Gate + Sync, K: Sink>(
     gate: &G,
     out: &mut K,
 ) -> Result<Ran, RunError>
-    requires script { IsScript script.now }
-    requires built { are_built script.now ≡ true }
+    requires script { IsRaceScript script.now }
     requires loaded { IsLoaded loaded }
     requires room { HasRoom file.old loaded }
     ensures ends { EndsRun true (loaded_width loaded) (bus_of loaded).lanes

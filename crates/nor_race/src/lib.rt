@@ -16,6 +16,7 @@
 //! No clause says that workers run at the same time, or that a gate is called: tests do.
 #![tactic(auto)]
 
+mod cuts;
 mod gate;
 mod image;
 mod laws;
@@ -26,6 +27,7 @@ mod placing;
 mod race;
 mod raceable;
 mod report;
+mod task;
 mod team;
 mod work;
 

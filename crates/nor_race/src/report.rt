@@ -1,20 +1,20 @@
 //! A script that is raced, and its history put.
-ghost use Rattle.std.specs.Prelude.{◌≡◌, ◌≤◌, ◌<◌, List, length, slice_get, true, Some, None, IfOk, IfErr};
+ghost use Rattle.std.specs.Prelude.{◌≡◌, ◌≤◌, ◌<◌, List, length, slice_get, true, Some, None, IsSome, IfOk, IfErr};
 ghost use Rattle.nor_array.specs.declared.entry.Entry.{Entry};
 ghost use Rattle.nor_bank.specs.Work.{KeepsBank};
 ghost use Rattle.nor_bus.specs.Cycles.{KeepsLanes};
-ghost use Rattle.nor_run.specs.Built.{are_built};
 ghost use Rattle.nor_run.specs.Running.{RunsLines, EndsLines};
 ghost use Rattle.nor_run.specs.Scripts.{IsJustLoaded, EndsRun, Reports};
 ghost use Rattle.nor_run.specs.Taking.{Hands, StopsIn};
-ghost use Rattle.nor_script.specs.Script.{IsScript};
-ghost use Rattle.nor_race.specs.Teams.{CanRaceLines};
-ghost use Rattle.nor_race.specs.Told.{AreTold, HasHistory, HandsAll};
+ghost use Rattle.nor_script.specs.Racing.{IsRaceScript};
+ghost use Rattle.nor_race.specs.Ran.{op_of};
+ghost use Rattle.nor_race.specs.Told.{AreTold, HasHistory, HandsAll, HandsTold};
 
 use crate::gate::Gate;
+use crate::note::Note;
 use crate::notes::Notes;
 use crate::race::{Raced, race_lines};
-use nor_array::Reply;
+use nor_array::{Op, Reply};
 use nor_bank::Bank;
 use nor_bus::{Bus, SimBank};
 use nor_cell::Chip;
@@ -25,6 +25,26 @@ use nor_word::BusWord;
 use std::alloc::Global;
 use std::sync::Wait;
 use std::thread::Threads;
+
+// Hands over the entry that a note tells.
+fn hand_word<T: Taker>(line: &Line, note: &Note, k: u64, taker: &mut T) -> Result<Reply, T::Stop>
+    requires call { IsSome (op_of line.now.word note.now.closes) }
+    ensures { HandsTold T.takes k line.now note.now taker.old taker.new result }
+{
+    let caller = line.caller;
+    let reply = note.reply;
+    if note.closes {
+        return hand_over(taker, k, caller, &Op::Poll, reply, &note.bytes);
+    }
+    match &line.word {
+        Word::Call(op) => hand_over(taker, k, caller, op, reply, &note.bytes),
+        Word::Erase { block } => {
+            let op = Op::EraseOpen { block: *block };
+            hand_over(taker, k, caller, &op, reply, &note.bytes)
+        }
+        Word::EraseAll => hand_over(taker, k, caller, &Op::EraseAll, reply, &note.bytes),
+    }
+}
 
 // Hands over the entry at position `k`, and gives its reply.
 fn hand_note<T: Taker>(
@@ -38,13 +58,8 @@ fn hand_note<T: Taker>(
     ensures { (es : List Entry) (e : Entry) → AreTold lines.now notes.now es
         → slice_get es k ≡ Some e → Hands T.takes k e taker.old taker.new result }
 {
-    let note = notes.note(k);
-    let line = &lines[note.line as usize];
-    match &line.word {
-        Word::Call(op) => hand_over(taker, k, line.caller, op, note.reply, &note.bytes),
-        Word::Erase { .. } => unreachable!(),
-        Word::EraseAll => unreachable!(),
-    }
+    let line = &lines[notes.line(k) as usize];
+    hand_word(line, notes.note(k), k, taker)
 }
 
 // Hands over the entries, in the order of the history.
@@ -81,8 +96,8 @@ fn race_and_put<
     gate: &G,
     out: &mut K,
 ) -> (Bank<W, B>, Result<Ran, RunError>)
-    requires closed { bank.erase ≡ None }
-    requires lines { CanRaceLines script.now }
+    requires fresh { (bank.halted ≡ None) × (bank.erase ≡ None) }
+    requires script { IsRaceScript script.now }
     ensures runs { RunsLines true script.now bank result.0
         (K.state out.old) (K.state out.new) result.1 }
     ensures ends { EndsLines true (K.state out.old) (K.state out.new) result.1 }
@@ -114,8 +129,7 @@ pub fn race_bank<
     gate: &G,
     out: &mut K,
 ) -> (SimBank<W, C>, Result<Ran, RunError>)
-    requires script { IsScript script.now }
-    requires built { are_built script.now ≡ true }
+    requires script { IsRaceScript script.now }
     requires loaded { IsJustLoaded W.WIDTH bank }
     ensures ends { EndsRun true W.WIDTH bank.lanes (K.state out.old) (K.state out.new) result.1 }
     ensures reports { Reports true W.WIDTH script.now bank result.0

@@ -1,13 +1,12 @@
 //! A team of workers, each of which runs its own lines.
-ghost use Rattle.std.specs.Prelude.{◌≡◌, ◌≤◌, ◌<◌, ◌+◌, [], length, All, Some, None, ◌^◌};
-ghost use Rattle.nor_race.specs.Teams.{CanRace, HasRaced, EachRaced, CanFold, CanStart, IsFirst, notes_of, total_share};
-ghost use Rattle.nor_race.specs.Laws.{KeepsTeams};
+ghost use Rattle.std.specs.Prelude.{◌≡◌, ◌≤◌, ◌+◌, ◌*◌, [], length, All, Some, None, ◌^◌};
+ghost use Rattle.nor_race.specs.Teams.{CanRace, HasRaced, EachRaced, CanFold, CanStart, IsFirst, teams_of, total_share, task_count, numbers_of, tasks_of};
 ghost use Rattle.nor_race.specs.Places.{all_of};
 ghost use Rattle.nor_race.specs.Ran.{Ran};
 ghost use Rattle.nor_driver.specs.Callers.{IsCallerOf};
 
 use crate::gate::Gate;
-use crate::note::Note;
+use crate::task::Task;
 use crate::work::run_lines;
 use nor_bus::Bus;
 use nor_driver::{Caller, Driver};
@@ -17,22 +16,22 @@ use std::sync::Wait;
 use std::thread;
 use std::thread::Threads;
 
-/// A caller, until it is handed over, with the notes for its lines.
+/// A caller, until it is handed over, with a task for each of its lines.
 #[derive(Drop)]
 pub(crate) struct Racer<W: BusWord, B: Bus<W>> {
     pub(crate) number: u8,
     pub(crate) caller: Option<Caller<W, B>>,
-    pub(crate) notes: Vec<Note>,
+    pub(crate) tasks: Vec<Task>,
 }
 
 impl<W: BusWord, B: Bus<W>> Racer<W, B> {
-    // Runs the lines that its notes are for.
+    // Runs the lines of its tasks.
     fn run<R: Wait, G: Gate>(&mut self, rt: &R, driver: &Driver<W, B>, lines: &[Line], gate: &G)
         requires { CanRace lines.now driver.now self.old }
         ensures { HasRaced lines.now self.old self.new }
     {
         if let Some(caller) = &mut self.caller {
-            run_lines(rt, driver, lines, gate, caller, self.notes.as_mut_slice());
+            run_lines(rt, driver, lines, gate, caller, self.tasks.as_mut_slice());
         }
     }
 
@@ -92,7 +91,8 @@ pub(crate) fn hand_out<W: BusWord, B: Bus<W>>(
     ensures fresh { first.new.pass.seen ≡ [] }
     ensures each { All (CanRace lines.now driver.now) racers.new }
     ensures share { first.new.pass.share + total_share racers.new ≡ 2 ^ 20 }
-    ensures notes { notes_of racers.new ≡ notes_of racers.old }
+    ensures tasks { tasks_of racers.new ≡ tasks_of racers.old }
+    ensures numbers { numbers_of racers.new ≡ numbers_of racers.old }
 {
     let _ = lines;
     for i in 0..racers.len() {
@@ -113,8 +113,8 @@ pub(crate) fn fold_all<W: BusWord, B: Bus<W>>(
     requires fresh { first.old.pass.seen ≡ [] }
     requires each { All (CanFold lines.now driver.now) racers.old }
     ensures own { IsCallerOf driver.now first.new }
-    ensures ran { Ran lines.now (notes_of racers.new) first.new.pass }
-    ensures notes { notes_of racers.new ≡ notes_of racers.old }
+    ensures ran { Ran lines.now (teams_of racers.new) first.new.pass }
+    ensures teams { teams_of racers.new ≡ teams_of racers.old }
     ensures share { first.new.pass.share ≡ first.old.pass.share + total_share racers.old }
 {
     let _ = lines;
@@ -139,9 +139,9 @@ pub(crate) fn race<R: Threads + Wait + Sync, W: BusWord + Send, B: Bus<W> + Send
     requires each { All (CanStart lines.now) racers.old }
     ensures own { IsCallerOf driver.now first.new }
     ensures share { first.new.pass.share ≡ 2 ^ 20 }
-    ensures ran { Ran lines.now (notes_of racers.new) first.new.pass }
-    ensures same { KeepsTeams lines.now (notes_of racers.old) (notes_of racers.new) }
-    ensures count { length (all_of (notes_of racers.new)) ≡ length (all_of (notes_of racers.old)) }
+    ensures ran { Ran lines.now (teams_of racers.new) first.new.pass }
+    ensures numbers { numbers_of racers.new ≡ numbers_of racers.old }
+    ensures few { length (all_of (teams_of racers.new)) ≤ 2 * task_count racers.old }
 {
     hand_out(driver, lines, first, racers);
     run_all(rt, driver, lines, gate, racers);

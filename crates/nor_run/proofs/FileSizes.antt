@@ -8,8 +8,7 @@ use Rattle.nor_cell.specs.Table.{has_locks, set_of}
 use Rattle.nor_query.specs.Derived.{keeps_locks, table_blocks}
 use Rattle.nor_bus.specs.Bus.{BusState, chip_at, lanes_of}
 use Rattle.nor_bus.specs.Cycles.{KeepsLanes}
-use Rattle.nor_bus.specs.Driven.{EachLane}
-use Rattle.nor_bank.specs.Work.{StaysFiled}
+use Rattle.nor_bus.specs.Driven.{AllLanes}
 use Rattle.nor_cell.specs.declared.device.Set.{Set}
 use Rattle.nor_image.specs.Image.{is_size_by, kept_locks}
 use Rattle.nor_image.specs.Written.{number_bytes, place_bytes, lock_bytes, kept_bytes, kept_of, record_bytes, records_bytes, header_bytes, bank_set, file_of, AreStorable, AgreeOnLocks}
@@ -81,20 +80,24 @@ file_length width old new some keeps =
     let heads : length (header_bytes Two width (chip_at new.lanes 0).part.device (length new.lanes)) ≡ length (header_bytes Two width (chip_at old.lanes 0).part.device (length old.lanes)) = refl in
     omega (arith, records, named, after, before, heads)
 
--- Lanes that agree on their locks go on to, where no lock changes.
-pub still_agree : (old new : BusState) → 0 < lanes_of old → lanes_of new ≡ lanes_of old → EachLane StaysFiled old new → AgreeOnLocks old.lanes → AgreeOnLocks new.lanes
-still_agree old new some count stays agree c d below_c below_d as_many =
-    is c below_c ∙ (agree c d (at c below_c) (at d below_d) (sym (ap length (is c below_c)) ∙ (as_many ∙ ap length (is d below_d))) ∙ sym (is d below_d))
+-- Lanes that have the same locks agree on those that a file keeps.
+pub locks_agree : (bus : BusState) (locks : List Bool) → AllLanes (λ s. s.locks ≡ locks) bus → AgreeOnLocks bus.lanes
+locks_agree bus locks all c d below_c below_d as_many =
+    is c below_c ∙ (by_tests (keeps_locks (bank_set bus.lanes) (has_locks (chip_at bus.lanes c).part.table)) (keeps_locks (bank_set bus.lanes) (has_locks (chip_at bus.lanes d).part.table))
+    (sym (ap length (is c below_c)) ∙ (as_many ∙ ap length (is d below_d))) ∙ sym (is d below_d))
   where
-    at : (k : ℕ) → k < length new.lanes → k < length old.lanes
-    at k below = subst (λ (n : ℕ). k < n) count below
+    is : (k : ℕ) → k < length bus.lanes → kept_of (bank_set bus.lanes) (chip_at bus.lanes k) ≡ (if keeps_locks (bank_set bus.lanes) (has_locks (chip_at bus.lanes k).part.table) then locks else [])
+    is k below = ap (λ (ls : List Bool). kept_locks (bank_set bus.lanes) (chip_at bus.lanes k).part.table ls) (all k below)
 
-    -- what a lane keeps is as it was
-    is : (k : ℕ) → k < length new.lanes → kept_of (bank_set new.lanes) (chip_at new.lanes k) ≡ kept_of (bank_set old.lanes) (chip_at old.lanes k)
-    is k below =
-        let each = stays k (at k below) in
-        let first = stays 0 some in
-        λ i. kept_locks (set_of (first.part i).table) (each.part i).table (each.locks i)
+    empty : (ls : List Bool) → length ls ≡ 0 → ls ≡ []
+    empty [] none = refl
+    empty (l ∷ ls) none = absurd (omega (arith, none))
+
+    by_tests : (x y : Bool) → length (if x then locks else []) ≡ length (if y then locks else []) → (if x then locks else []) ≡ (if y then locks else [])
+    by_tests true true same = refl
+    by_tests false false same = refl
+    by_tests true false same = empty locks same
+    by_tests false true same = sym (empty locks (sym same))
 
 -- A bank that a file can store goes on to be one.
 pub still_storable : (old new : BusState) → 0 < lanes_of old → KeepsLanes old new → AreStorable old.lanes → AreStorable new.lanes

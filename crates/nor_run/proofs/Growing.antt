@@ -1,43 +1,38 @@
 -- A history that grows, line by line.
-use Rattle.std.proofs.Common.{◌≡◌, ◌<◌, ◌≤◌, ◌+◌, ◌∙◌, ◌||◌, ◌&&◌, IfOk, IfErr, ◌++◌, ◌∷◌, ℕ, zero, suc, List, [], length, take, get_or, slice_index_or, Bool, true, false, None, Result, Ok, Err, refl, sym, ap, subst, arith}
+use Rattle.std.proofs.Common.{◌≡◌, ◌<◌, ◌≤◌, ◌+◌, ◌*◌, ◌∙◌, ◌||◌, IfOk, IfErr, ◌++◌, ◌∷◌, ℕ, zero, suc, List, [], length, take, get_or, Bool, true, false, Result, Ok, Err, refl, sym, ap, subst, arith, append_assoc}
+use Rattle.std.specs.Prelude.{All}
 use Rattle.std.proofs.lemmas.List.{length-append, take_all}
+use Rattle.std.proofs.lemmas.List.Elements.{All-head, All-tail}
 use Rattle.std.proofs.Math.Bool.{or-false}
 use Rattle.std.proofs.Math.Seq.{take-suc}
 use Rattle.nor_io.specs.Files.{SinkState}
 use Rattle.nor_io.specs.declared.sink.SinkError.{SinkError}
 use Rattle.nor_io.specs.declared.sink.SinkError.TheVariants.{Fault, NoMemory}
-use Rattle.nor_cell.specs.Chip.{Part}
-use Rattle.nor_bus.specs.Bus.{lanes_of}
-use Rattle.nor_bus.specs.Driven.{EachLane}
-use Rattle.nor_array.specs.Array.{ArrayState, is_locked}
-use Rattle.nor_array.specs.After.{after, after_all, after_reply}
-use Rattle.nor_array.specs.Legal.{Facts, Agrees}
+use Rattle.nor_array.specs.Array.{ArrayState}
+use Rattle.nor_array.specs.After.{after_all}
 use Rattle.nor_array.specs.declared.entry.Entry.{Entry}
-use Rattle.nor_array.specs.declared.entry.Op.{Op}
-use Rattle.nor_array.specs.declared.entry.Op.TheVariants.{Read, Program, EraseOpen, EraseAll, Poll, Lock, Unlock, IsLocked, Arm, PowerOn}
-use Rattle.nor_array.specs.declared.entry.Reply.{Reply}
-use Rattle.nor_array.proofs.Histories.{after_last, legal_more}
-use Rattle.nor_array.proofs.Unlocked.{range_locks}
-use Rattle.nor_array.specs.Entries.{IsOf, is_halt, has_halt}
+use Rattle.nor_array.specs.Entries.{is_halt, has_halt}
 use Rattle.nor_script.specs.Answering.{AnswersWord, AnswersRun}
+use Rattle.nor_script.specs.Script.{IsScript, HasCaller}
 use Rattle.nor_script.specs.declared.line.Line.{Line}
 use Rattle.nor_script.specs.declared.line.Word.{Word}
 use Rattle.nor_script.specs.declared.line.Word.TheVariants.{Call, Erase, EraseAll as EraseAllLine}
 use Rattle.nor_script.proofs.Answered.{answers_line, answers_more}
-use Rattle.nor_bank.specs.Calls.{MakesEntry, facts_of}
-use Rattle.nor_bank.proofs.Keeping.{stays_self, stays_on}
-use Rattle.nor_bank.proofs.Lasting.{facts_last}
+use Rattle.nor_history.specs.Histories.{Leads}
 use Rattle.nor_bank.specs.Stands.{Stands}
 use Rattle.nor_bank.specs.State.{BankState}
-use Rattle.nor_bank.specs.Work.{StandsClosed, StaysFiled, KeepsBank}
-use Rattle.nor_run.specs.Built.{is_built_call, is_built_word, are_built}
-use Rattle.nor_run.specs.Running.{RunsCall, RunsWord, Leads, IsHistoryOf, RunsWhole, RunsPart, RunsLines, EndsLines}
+use Rattle.nor_bank.specs.Work.{KeepsBank}
+use Rattle.nor_history.proofs.Histories.{leads_none, leads_then}
+use Rattle.nor_run.specs.Running.{RunsTo, IsHistoryOf, RunsWhole, RunsPart, RunsLines, EndsLines}
 use Rattle.nor_run.specs.Started.{of_put}
 use Rattle.nor_run.specs.Taking.{told, Takes, TakesAll, PutsBy}
 use Rattle.nor_run.specs.declared.error.RunError.{RunError}
 use Rattle.nor_run.specs.declared.error.RunError.TheVariants.{Put}
 use Rattle.nor_run.specs.declared.lines.Ran.{Ran}
-use Rattle.nor_run.proofs.Taking.{takes_more, by_state, took_later, stops_later, stops_rose}
+use Rattle.nor_run.proofs.Taking.{by_state, took_later, stops_later, stops_rose}
+
+false_true : false ≡ true → ⊥
+false_true is = cc
 
 -- ---- lists
 
@@ -49,13 +44,27 @@ pub halt_last : (es : List Entry) (e : Entry) → has_halt (es ++ e ∷ []) ≡ 
 halt_last [] e = or-false (is_halt e.reply)
 halt_last (x ∷ es) e = ap (λ (b : Bool). is_halt x.reply || b) (halt_last es e) ∙ or_assoc (is_halt x.reply) (has_halt es) (is_halt e.reply)
 
--- ---- what no call changes
+-- how many halts of two lists
+pub halt_then : (xs ys : List Entry) → has_halt (xs ++ ys) ≡ (has_halt xs || has_halt ys)
+halt_then [] ys = refl
+halt_then (x ∷ xs) ys = ap (λ (b : Bool). is_halt x.reply || b) (halt_then xs ys) ∙ or_assoc (is_halt x.reply) (has_halt xs) (has_halt ys)
 
-pub same_facts : (old new : BankState) → KeepsBank old new → facts_of new ≡ facts_of old
-same_facts old new keeps = facts_last old new keeps.found keeps.lanes.count (λ c below. (keeps.lanes.each c below).part)
+-- a taker took some, and then others
+took_then : {T E : Type 0} (takes : Takes T E) (position : ℕ) (xs ys : List Entry) (before mid after : T) → TakesAll takes position xs before mid
+    → TakesAll takes (position + length xs) ys mid after → TakesAll takes position (xs ++ ys) before after
+took_then {T = T} takes position [] ys before mid after took next =
+    let here : position + 0 ≡ position = omega arith in
+    subst (λ (n : ℕ). TakesAll takes n ys before after) here (subst (λ (x : T). TakesAll takes (position + 0) ys x after) took next)
+took_then takes position (x ∷ xs) ys before mid after took next =
+    let there : position + suc (length xs) ≡ position + 1 + length xs = omega arith in
+    (took.0, took.1, took_then takes (position + 1) xs ys took.0 mid after took.2 (subst (λ (n : ℕ). TakesAll takes n ys mid after) there next))
 
-false_true : false ≡ true → ⊥
-false_true is = cc
+-- the same where the place is a count of the entries before
+took_more : {T E : Type 0} (takes : Takes T E) (xs ys : List Entry) (count : ℕ) (before mid after : T) → count ≡ length xs → TakesAll takes 0 xs before mid
+    → TakesAll takes count ys mid after → TakesAll takes 0 (xs ++ ys) before after
+took_more takes xs ys count before mid after is took next =
+    let there : count ≡ 0 + length xs = omega (arith, is) in
+    took_then takes 0 xs ys before mid after took (subst (λ (n : ℕ). TakesAll takes n ys mid after) there next)
 
 -- ---- one more line
 
@@ -71,94 +80,89 @@ pub no_line : {T E : Type 0} (takes : Takes T E) (lines : List Line) (b : BankSt
     → RunsSoFar takes lines 0 b b before before (record { entries = 0; halted = false })
 no_line takes lines b before = record {
   history = [];
-  is = record { answers = refl; leads = λ a stands. record { legal = tt; stands = stands; stays = λ c below. stays_self _ } };
+  is = record { answers = refl; leads = λ a stands. leads_none b a stands; closed = λ race a stands closed. closed };
   took = refl;
   entries = refl;
   halted = refl;
 }
 
--- an entry behind a history that leads to where its call was made
-leads_on : (old now new : BankState) (a : ArrayState) (es : List Entry) (e : Entry) → KeepsBank old now → Leads es old now a
-    → MakesEntry now new e (after_all a es) → new.erase ≡ None → EachLane StaysFiled now.bus new.bus → Leads (es ++ e ∷ []) old new a
-leads_on old now new a es e keeps leads makes closed stays = record {
-  legal = legal_more (facts_of old) a es e leads.legal makes.admitted (subst (λ (f : Facts). Agrees f (after_all a es) e) (same_facts old now keeps) makes.agrees);
-  stands = record { stands = subst (λ (x : ArrayState). Stands new x) (sym (after_last a es e)) makes.stands; closed = closed };
-  stays = stays_on old.bus now.bus new.bus keeps.lanes.count leads.stays stays;
-}
-
--- an entry of a line behind a history of those before
-pub one_more : (lines : List Line) (n : ℕ) (line : Line) (op : Op) (old now new : BankState) (es : List Entry) (e : Entry)
-    → n < length lines → get_or lines n line ≡ line → line.word ≡ Call op → IsOf line.caller op e
+-- the entries of a line behind a history of those before
+pub one_more : (lines : List Line) (n : ℕ) (line : Line) (old now new : BankState) (es more : List Entry)
+    → n < length lines → get_or lines n line ≡ line → AnswersWord line.word line.caller more
     → KeepsBank old now → IsHistoryOf false (take n lines) old now es
-    → ((a : ArrayState) → Stands now a → MakesEntry now new e a) → (now.erase ≡ None → new.erase ≡ None)
-    → ((a : ArrayState) → StandsClosed now a → EachLane StaysFiled now.bus new.bus)
-    → IsHistoryOf false (take (suc n) lines) old new (es ++ e ∷ [])
-one_more lines n line op old now new es e below at word of keeps is makes closed stays = record {
+    → ((a : ArrayState) → Stands now a → Leads more now new a)
+    → IsHistoryOf false (take (suc n) lines) old new (es ++ more)
+one_more lines n line old now new es more below at answers keeps is leads = record {
   answers =
-      let one : AnswersWord line.word line.caller (e ∷ []) = subst (λ (w : Word). AnswersWord w line.caller (e ∷ [])) (sym word) of in
-      let more : AnswersRun (take n lines ++ line ∷ []) (es ++ e ∷ []) =
-      answers_more (take n lines) (line ∷ []) es (e ∷ []) is.answers (answers_line line (e ∷ []) one) in
-      subst (λ (ls : List Line). AnswersRun ls (es ++ e ∷ [])) (sym (take-suc lines n line below ∙ ap (λ (l : Line). take n lines ++ l ∷ []) at)) more;
+      let all : AnswersRun (take n lines ++ line ∷ []) (es ++ more) =
+      answers_more (take n lines) (line ∷ []) es more is.answers (answers_line line more answers) in
+      subst (λ (ls : List Line). AnswersRun ls (es ++ more)) (sym (take-suc lines n line below ∙ ap (λ (l : Line). take n lines ++ l ∷ []) at)) all;
   leads = λ a first.
       let so = is.leads a first in
-      leads_on old now new a es e keeps so (makes (after_all a es) so.stands.stands) (closed so.stands.closed) (stays (after_all a es) so.stands);
+      leads_then es more old now new a keeps so (leads (after_all a es) so.stands);
+  closed = λ race a stands closed. absurd (false_true race);
 }
 
-line_more : {T E : Type 0} (takes : Takes T E) (lines : List Line) (n : ℕ) (line : Line) (op : Op) (old now new : BankState) (before mid after : T) (ran : Ran) (reply : Reply)
-    → n < length lines → get_or lines n line ≡ line → line.word ≡ Call op → is_built_call op ≡ true
-    → KeepsBank old now → KeepsBank now new
-    → RunsSoFar takes lines n old now before mid ran
-    → RunsCall takes line.caller op ran.entries now new mid after (Ok reply)
-    → RunsSoFar takes lines (suc n) old new before after (record { entries = ran.entries + 1; halted = ran.halted || is_halt reply })
-line_more takes lines n line op old now new before mid after ran reply below at word built keeps next so runs =
-    let e = runs.entry in
-    record {
-      history = so.history ++ e ∷ [];
-      is = one_more lines n line op old now new so.history e below at word runs.is keeps so.is runs.makes runs.closed runs.stays;
-      took = takes_more takes so.history e ran.entries before mid after so.entries so.took runs.hands.1;
-      entries = ap (λ (k : ℕ). k + 1) so.entries ∙ sym (length-append so.history (e ∷ []));
-      halted = (λ i. so.halted i || is_halt (runs.hands.0 i)) ∙ sym (halt_last so.history e);
-    }
+-- a line has one entry or two
+pub few_entries : (word : Word) (caller : ℕ) (es : List Entry) → AnswersWord word caller es → length es ≤ 2
+few_entries word caller [] answers = omega arith
+few_entries word caller (e ∷ []) answers = omega arith
+few_entries word caller (e ∷ f ∷ []) answers = omega arith
+few_entries (Call op) caller (e ∷ f ∷ g ∷ es) answers = absurd answers
+few_entries (Erase b) caller (e ∷ f ∷ g ∷ es) answers = absurd answers
+few_entries EraseAllLine caller (e ∷ f ∷ g ∷ es) answers = absurd answers
+
+pub few_more : {T E : Type 0} (takes : Takes T E) (word : Word) (caller n m : ℕ) (old new : BankState) (before after : T) (ran now : Ran)
+    → RunsTo takes (AnswersWord word caller) ran old new before after (Ok now) → ran.entries ≤ 2 * n → m ≡ n + 1 → now.entries ≤ 2 * m
+few_more takes word caller n m old new before after ran now runs so next =
+    let few = few_entries word caller runs.entries runs.answers in
+    let count : now.entries ≡ ran.entries + length runs.entries = ap (λ (r : Ran). r.entries) runs.gives.1 in
+    omega (arith, few, count, so, next)
 
 -- the line after the first n was run
-pub word_more : {T E : Type 0} (takes : Takes T E) (lines : List Line) (n : ℕ) (line : Line) (word : Word) (old now new : BankState) (before mid after : T) (ran : Ran) (reply : Reply)
-    → n < length lines → get_or lines n line ≡ line → line.word ≡ word → is_built_word word ≡ true
-    → KeepsBank old now → KeepsBank now new
-    → RunsSoFar takes lines n old now before mid ran
-    → RunsWord takes word line.caller ran.entries now new mid after (Ok reply)
-    → RunsSoFar takes lines (n + 1) old new before after (record { entries = ran.entries + 1; halted = ran.halted || is_halt reply })
-word_more takes lines n line (Call op) old now new before mid after ran reply below at word built keeps next so runs =
+pub line_more : {T E : Type 0} (takes : Takes T E) (lines : List Line) (n : ℕ) (line : Line) (old now new : BankState) (before mid after : T) (ran next : Ran)
+    → n < length lines → get_or lines n line ≡ line
+    → KeepsBank old now → RunsSoFar takes lines n old now before mid ran
+    → RunsTo takes (AnswersWord line.word line.caller) ran now new mid after (Ok next)
+    → RunsSoFar takes lines (n + 1) old new before after next
+line_more takes lines n line old now new before mid after ran next below at keeps so runs =
+    let es = runs.entries in
     let more : suc n ≡ n + 1 = omega arith in
-    subst (λ (m : ℕ). RunsSoFar takes lines m old new before after (record { entries = ran.entries + 1; halted = ran.halted || is_halt reply })) more
-    (line_more takes lines n line op old now new before mid after ran reply below at word built keeps next so runs)
-word_more takes lines n line (Erase b) old now new before mid after ran reply below at word built keeps next so runs = absurd runs
-word_more takes lines n line EraseAllLine old now new before mid after ran reply below at word built keeps next so runs = absurd runs
-
--- its entry wasn't taken
-pub word_stopped : {T E : Type 0} (takes : Takes T E) (lines : List Line) (n : ℕ) (line : Line) (word : Word) (old now new : BankState) (before mid after : T) (ran : Ran) (stop : E)
-    → n < length lines → get_or lines n line ≡ line → line.word ≡ word → KeepsBank old now
-    → RunsSoFar takes lines n old now before mid ran
-    → RunsWord takes word line.caller ran.entries now new mid after (Err stop)
-    → RunsPart takes false lines old new before after stop
-word_stopped takes lines n line (Erase b) old now new before mid after ran stop below at word keeps so runs = absurd runs
-word_stopped takes lines n line EraseAllLine old now new before mid after ran stop below at word keeps so runs = absurd runs
-word_stopped takes lines n line (Call op) old now new before mid after ran stop below at word keeps so runs =
-    let e = runs.entry in
     record {
-      history = so.history ++ e ∷ [];
+      history = so.history ++ es;
+      is = subst (λ (m : ℕ). IsHistoryOf false (take m lines) old new (so.history ++ es)) more
+          (one_more lines n line old now new so.history es below at runs.answers keeps so.is runs.leads);
+      took = took_more takes so.history es ran.entries before mid after so.entries so.took runs.gives.0;
+      entries = ap (λ (r : Ran). r.entries) runs.gives.1 ∙ (ap (λ (k : ℕ). k + length es) so.entries ∙ sym (length-append so.history es));
+      halted = ap (λ (r : Ran). r.halted) runs.gives.1 ∙ (ap (λ (b : Bool). b || has_halt es) so.halted ∙ sym (halt_then so.history es));
+    }
+
+-- one of its entries wasn't taken
+pub line_stopped : {T E : Type 0} (takes : Takes T E) (lines : List Line) (n : ℕ) (line : Line) (old now new : BankState) (before mid after : T) (ran : Ran) (stop : E)
+    → n < length lines → get_or lines n line ≡ line
+    → KeepsBank old now → RunsSoFar takes lines n old now before mid ran
+    → RunsTo takes (AnswersWord line.word line.caller) ran now new mid after (Err stop)
+    → RunsPart takes false lines old new before after stop
+line_stopped takes lines n line old now new before mid after ran stop below at keeps so runs =
+    let es = runs.entries in
+    let at_stop = runs.gives in
+    let place : ran.entries + length at_stop.taken ≡ length (so.history ++ at_stop.taken) =
+    ap (λ (k : ℕ). k + length at_stop.taken) so.entries ∙ sym (length-append so.history at_stop.taken) in
+    record {
+      history = so.history ++ es;
       count = suc n;
       all = tt;
-      is = one_more lines n line op old now new so.history e below at word runs.is keeps so.is runs.makes runs.closed runs.stays;
+      is = one_more lines n line old now new so.history es below at runs.answers keeps so.is runs.leads;
       stops = record {
-        taken = so.history;
-        entry = e;
-        rest = [];
-        parts = refl;
-        mid = mid;
-        took = so.took;
-        stops = subst (λ (k : ℕ). takes k (told e) mid after (Err stop)) so.entries runs.hands;
+        taken = so.history ++ at_stop.taken;
+        entry = at_stop.entry;
+        rest = at_stop.rest;
+        parts = ap (λ (xs : List Entry). so.history ++ xs) at_stop.parts ∙ sym (append_assoc so.history at_stop.taken (at_stop.entry ∷ at_stop.rest));
+        mid = at_stop.mid;
+        took = took_more takes so.history at_stop.taken ran.entries before mid at_stop.mid so.entries so.took at_stop.took;
+        stops = subst (λ (k : ℕ). takes k (told at_stop.entry) at_stop.mid after (Err stop)) place at_stop.stops;
       };
-      last = λ _. refl;
+      last = λ _. at_stop.last;
     }
 
 -- all lines were
@@ -172,19 +176,14 @@ all_run takes lines n old new before after ran over so = record {
   halted = so.halted;
 }
 
-pub and_first : (x y : Bool) → (x && y) ≡ true → x ≡ true
-and_first true y is = refl
-and_first false y is = is
+-- each line of a script has its caller
+callers_at : (lines : List Line) (n : ℕ) (line : Line) → n < length lines → get_or lines n line ≡ line → All (λ l. HasCaller l.word l.caller) lines → HasCaller line.word line.caller
+callers_at [] n line below at all = absurd (omega arith)
+callers_at (x ∷ lines) zero line below at all = subst (λ (l : Line). HasCaller l.word l.caller) at (All-head (λ (l : Line). HasCaller l.word l.caller) x lines all)
+callers_at (x ∷ lines) (suc n) line below at all = callers_at lines n line (omega arith) at (All-tail (λ (l : Line). HasCaller l.word l.caller) x lines all)
 
-pub and_second : (x y : Bool) → (x && y) ≡ true → y ≡ true
-and_second true y is = is
-and_second false y is = absurd (false_true is)
-
--- each of built lines is built
-pub line_built : (lines : List Line) (n : ℕ) (line : Line) → n < length lines → are_built lines ≡ true → is_built_word (get_or lines n line).word ≡ true
-line_built [] n line below built = absurd (omega arith)
-line_built (x ∷ lines) zero line below built = and_first (is_built_word x.word) (are_built lines) built
-line_built (x ∷ lines) (suc n) line below built = line_built lines n line (omega arith) (and_second (is_built_word x.word) (are_built lines) built)
+pub caller_at : (lines : List Line) (n : ℕ) (line : Line) → n < length lines → get_or lines n line ≡ line → IsScript lines → HasCaller line.word line.caller
+caller_at lines n line below at script = callers_at lines n line below at script.callers
 
 -- ---- what a sink was given
 

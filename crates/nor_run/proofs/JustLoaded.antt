@@ -31,6 +31,7 @@ use Rattle.nor_image.specs.Image.{IsImageOf, kept_locks, locks_of, machine_of, r
 use Rattle.nor_image.specs.Written.{bank_set}
 use Rattle.nor_image.proofs.Sizes.{size_of_table}
 use Rattle.nor_run.specs.Scripts.{IsJustPowered, IsJustLoaded, HasLetters}
+use Rattle.nor_bank.proofs.Lasting.{after_none}
 
 -- ---- locks after power-on
 
@@ -38,11 +39,6 @@ none_set : (m b : ℕ) (h : Bool) → h ≡ false → slice_index_or (replicate 
 none_set zero b h is = refl
 none_set (suc m) zero h is = is
 none_set (suc m) (suc b) h is = none_set m b h is
-
-first_unlocked : (set : Set) (table : List ℕ) (xs : List Bool) (b : ℕ) → has_locks table ≡ false → slice_index_or (locks_after set table xs) b false ≡ false
-first_unlocked Intel table xs b none = none_set (length xs) b (has_locks table) none
-first_unlocked Amd table xs b none =
-    ap (λ (offered : Bool). slice_index_or (if offered then xs else replicate (length xs) false) b false) none ∙ none_set (length xs) b false refl
 
 -- two chips of one set that agree on what they keep without power have the same locks once they are powered on
 locks_alike : (set : Set) (t u : List ℕ) (xs ys : List Bool) → has_locks u ≡ has_locks t → length ys ≡ length xs
@@ -133,7 +129,7 @@ module _ (width : ℕ) (bus : BusState) (loaded : IsJustLoaded width bus) (range
             (let low = head.size_low in omega (arith, log, low)) (let high = head.size_high in omega (arith, log, high));
         unlocked = λ without b.
             ap (λ (locks : List Bool). slice_index_or locks b false) (loaded.chips c below).locks
-            ∙ first_unlocked (lane bus c).part.set (lane bus c).part.table (lane bus c).locks b without;
+            ∙ after_none (lane bus c).part.set (lane bus c).part.table (lane bus c).locks b without;
       }
 
   locks_are : (c : ℕ) → c < lanes_of bus → (lane bus c).locks ≡ (lane bus 0).locks

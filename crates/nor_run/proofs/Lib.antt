@@ -1,6 +1,5 @@
 pub mod Calling
 pub mod Causing
-pub mod Chips
 pub mod FileSizes
 pub mod Growing
 pub mod JustLoaded

@@ -1,12 +1,9 @@
 -- From a bank that was started to the bank that was loaded.
-use Rattle.std.proofs.Common.{◌≡◌, ◌≢◌, ◌<◌, ◌≤◌, ◌*◌, ◌==◌, ◌∙◌, inl, inr, not, ℕ, zero, suc, List, [], ◌∷◌, length, take, map, Bool, true, false, Option, Some, None, Result, Ok, Err, refl, sym, ap, subst, arith}
-use Rattle.std.specs.List.{list_all}
+use Rattle.std.proofs.Common.{◌≡◌, ◌≢◌, ◌<◌, ◌≤◌, ◌*◌, ◌∙◌, inl, inr, ℕ, List, [], ◌∷◌, length, take, map, Bool, true, false, Some, None, Result, Ok, Err, refl, sym, ap, subst, arith}
 use Rattle.nor_io.specs.Files.{SinkState, Appends, AppendsPart}
 use Rattle.nor_io.specs.declared.sink.SinkError.{SinkError}
 use Rattle.nor_io.specs.declared.sink.SinkError.TheVariants.{Fault, NoMemory}
 use Rattle.nor_io.proofs.Pieces.{Appends-append, AppendsPart-append}
-use Rattle.nor_io.proofs.Putting.{none_left}
-use Rattle.nor_cell.proofs.Logic.{both_pass}
 use Rattle.nor_cell.specs.Chip.{ChipState}
 use Rattle.nor_cell.specs.Ranges.{IsChip}
 use Rattle.nor_cell.specs.declared.geometry.Geometry.{Geometry}
@@ -19,19 +16,17 @@ use Rattle.nor_lane.specs.Candidates.{wiring}
 use Rattle.nor_probe.specs.Asking.{Resets}
 use Rattle.nor_probe.specs.declared.error.ProbeError.{ProbeError}
 use Rattle.nor_probe.specs.declared.error.ProbeError.TheVariants.{Off as LostPower}
-use Rattle.nor_query.specs.Derived.{locks_of}
 use Rattle.nor_probe.specs.Probed.{refusal, IsFoundOn}
 use Rattle.nor_probe.specs.declared.probing.Found.{Found}
 use Rattle.nor_array.specs.Array.{ArrayState}
 use Rattle.nor_array.specs.After.{after_all}
 use Rattle.nor_array.specs.Legal.{Facts, Legal}
 use Rattle.nor_array.specs.declared.entry.Entry.{Entry}
-use Rattle.nor_array.specs.declared.state.OpenErase.{OpenErase}
 use Rattle.nor_io.specs.Puts.{PutsText}
 use Rattle.nor_script.specs.Report.{entry_lines, totals_text, report_text}
 use Rattle.nor_script.specs.declared.line.Line.{Line}
 use Rattle.nor_bank.specs.Calls.{facts_of}
-use Rattle.nor_bank.specs.Stands.{Stands, IsKnown, CanStart, opening_array, constants_of, under_of, kept_power, cut_of, is_under}
+use Rattle.nor_bank.specs.Stands.{Stands, IsKnown, CanStart, opening_array, constants_of, under_of, kept_power, cut_of}
 use Rattle.nor_bank.specs.State.{BankState, size_of, bytes_of}
 use Rattle.nor_bank.proofs.Known.{known_parts, known_some}
 use Rattle.nor_image.specs.Image.{IsImageOf, device_of}
@@ -39,18 +34,19 @@ use Rattle.nor_image.specs.Loaded.{bus_of, loaded_width}
 use Rattle.nor_image.specs.declared.loaded.Loaded.{Loaded}
 use Rattle.nor_image.specs.Written.{file_of, Stores}
 use Rattle.nor_cell.specs.Power.{powered}
-use Rattle.nor_run.specs.Built.{is_faultless, is_built_bank}
-use Rattle.nor_bank.specs.Work.{StandsClosed, StaysFiled, KeepsBank}
-use Rattle.nor_run.specs.Running.{IsCount, Leads, IsHistoryOf, RunsWhole, RunsPart, RunsLines, EndsLines, ReportsWhole, ReportsPart, ReportsLines, counters_of}
-use Rattle.nor_run.specs.Scripts.{IsJustLoaded, IsLoaded, HasRoom, HasLetters, RunsImage, started, opening_of, HoldsBytes, StandsOn, RunsLegally, IsRunOf, RunsScript, IsRunnable, EndsRun, Reports}
+use Rattle.nor_history.specs.Histories.{Leads, opened, risen}
+use Rattle.nor_bank.specs.Work.{KeepsBank}
+use Rattle.nor_run.specs.Running.{IsCount, IsHistoryOf, RunsWhole, RunsPart, RunsLines, EndsLines, ReportsWhole, ReportsPart, ReportsLines, counters_of}
+use Rattle.nor_run.specs.Scripts.{IsJustLoaded, IsLoaded, HasRoom, HasLetters, RunsImage, started, opening_of, HoldsArray, StandsOn, RunsLegally, IsRunOf, RunsScript, IsRunnable, EndsRun, Reports}
 use Rattle.nor_run.specs.Started.{IsStarted, Starts, Refuses}
 use Rattle.nor_run.specs.declared.error.RunError.{RunError}
-use Rattle.nor_run.specs.declared.error.RunError.TheVariants.{Probe, NotBuilt, NoMemory as Memory, Put}
+use Rattle.nor_run.specs.declared.error.RunError.TheVariants.{Probe, NoMemory as Memory, Put}
 use Rattle.nor_run.specs.declared.lines.Ran.{Ran}
 use Rattle.nor_run.specs.Taking.{PutsEntry}
-use Rattle.nor_run.proofs.FileSizes.{still_storable, still_agree, file_length}
+use Rattle.nor_run.proofs.FileSizes.{still_storable, locks_agree, file_length}
 use Rattle.nor_run.proofs.Taking.{took_text, stops_text}
 use Rattle.nor_run.proofs.JustLoaded.{just_loaded, quiet_rests, same_lanes, can_start}
+use Rattle.nor_run.proofs.Taking.{part_put}
 
 -- ---- the report behind the lines
 
@@ -66,10 +62,6 @@ report_whole race lines old new before mid after ran runs totals = record {
   halted = runs.halted;
 }
 
-pub part_text : (text : List ℕ) (before after : SinkState) (error : SinkError) → PutsText text before after (Err error) → AppendsPart before.taken text after.taken
-part_text text before after Fault puts = puts.1
-part_text text before after NoMemory puts = puts
-
 pub report_part : (race : Bool) (lines : List Line) (old new : BankState) (before mid after : SinkState) (ran : Ran) (error : SinkError)
     → RunsWhole PutsEntry race lines old new before mid ran
     → PutsText (totals_text (counters_of new.bus.lanes) ran.entries) mid after (Err error)
@@ -83,7 +75,7 @@ report_part race lines old new before mid after ran error runs puts = record {
   due = inr (omega arith, refl);
   text = AppendsPart-append before.taken mid.taken after.taken (entry_lines 0 runs.history) (totals_text (counters_of new.bus.lanes) (length runs.history)) (took_text 0 runs.history before mid runs.took)
       (subst (λ (n : ℕ). AppendsPart mid.taken (totals_text (counters_of new.bus.lanes) n) after.taken) runs.entries
-      (part_text (totals_text (counters_of new.bus.lanes) ran.entries) mid after error puts));
+      (part_put (totals_text (counters_of new.bus.lanes) ran.entries) mid after error puts));
 }
   where
     whole_count : (b : Bool) → IsCount b lines (length lines)
@@ -134,7 +126,6 @@ end_fails race text before mid after NoMemory le puts = tt
 pub reports_failed : (race : Bool) (lines : List Line) (old new : BankState) (before after : SinkState) (error : RunError)
     → RunsLines race lines old new before after (Err error) → ReportsLines race lines old new before after (Err error)
 reports_failed race lines old new before after (Probe e) runs = runs
-reports_failed race lines old new before after NotBuilt runs = runs
 reports_failed race lines old new before after Memory runs = runs
 reports_failed race lines old new before after (Put e) runs = report_stopped race lines old new before after e runs
 
@@ -163,34 +154,31 @@ opens width bus b is =
 same_facts : (width : ℕ) (bus : BusState) (b : BankState) → IsStarted width bus b → facts_of b ≡ facts_of (started b.found bus)
 same_facts width bus b is = ap (λ (chips : List ChipState). facts_of (started b.found (record bus { lanes = chips }))) is.lanes
 
-under_none : (o : Option OpenErase) (consts : _) (p : ℕ) → o ≡ None → is_under o consts p ≡ false
-under_none o consts p is = ap (λ (x : Option OpenErase). is_under x consts p) is
+holds_array : (b new : BankState) (a : ArrayState) → KeepsBank b new → Stands new a → HoldsArray b.found new.bus a
+holds_array b new a keeps stands = record {
+  size = stands.size ∙ size_is new stands.known;
+  bytes = λ p below outside.
+      stands.bytes p (let n = stands.size in omega (arith, below, n)) outside
+      ∙ ap (λ (f : Found). bank_byte f.geometry.device new.bus.lanes p) keeps.found;
+  locks = stands.locks;
+}
 
-holds_bytes : (b new : BankState) (a : ArrayState) → KeepsBank b new → StandsClosed new a → HoldsBytes b.found new.bus a
-holds_bytes b new a keeps on =
-    let stands = on.stands in
-    let none : a.under ≡ None = stands.under ∙ ap under_of on.closed in
-    record {
-      size = stands.size ∙ size_is new stands.known;
-      bytes = λ p below.
-          stands.bytes p (let n = stands.size in omega (arith, below, n)) (under_none a.under a.consts p none)
-          ∙ ap (λ (f : Found). bank_byte f.geometry.device new.bus.lanes p) keeps.found;
-    }
-
-runs_legally : (width : ℕ) (bus : BusState) (b new : BankState) (es : List Entry) → IsStarted width bus b
-    → KeepsBank b new → Leads es b new (opening_array b) → RunsLegally bus new.bus b.found es
-runs_legally width bus b new es is keeps leads =
+runs_legally : (race : Bool) (width : ℕ) (bus : BusState) (b new : BankState) (es : List Entry) → IsStarted width bus b
+    → KeepsBank b new → (race ≡ true → new.erase ≡ None) → Leads es b new (opening_array b) → RunsLegally race bus new.bus b.found es
+runs_legally race width bus b new es is keeps closed leads =
     let open_ = opens width bus b is in
     record {
       legal = subst (λ (f : Facts). Legal f (opening_of b.found bus) es) (same_facts width bus b is)
           (subst (λ (a : ArrayState). Legal (facts_of b) a es) open_ leads.legal);
-      stays = λ c below.
-          subst (λ (chips : List ChipState). StaysFiled (chip_at chips c) (lane new.bus c)) is.lanes
-          (leads.stays c (subst (λ (chips : List ChipState). c < length chips) (sym is.lanes) below));
       stands = subst (λ (a : ArrayState). StandsOn b.found new.bus (after_all a es)) open_
-          (record { bank = new; on = refl; is = keeps.found; stands = leads.stands.stands });
-      holds = subst (λ (a : ArrayState). HoldsBytes b.found new.bus (after_all a es)) open_
-          (holds_bytes b new (after_all (opening_array b) es) keeps leads.stands);
+          (record { bank = new; on = refl; is = keeps.found; stands = leads.stands });
+      holds = subst (λ (a : ArrayState). HoldsArray b.found new.bus (after_all a es)) open_
+          (holds_array b new (after_all (opening_array b) es) keeps leads.stands);
+      erases = λ c below.
+          subst (λ (chips : List ChipState). (lane new.bus c).erases ≡ risen (chip_at chips c).erases (opened es)) is.lanes
+          (leads.erases c (subst (λ (chips : List ChipState). c < length chips) (sym is.lanes) below));
+      closed = λ raced.
+          subst (λ (a : ArrayState). (after_all a es).under ≡ None) open_ (leads.stands.under ∙ ap under_of (closed raced));
     }
 
 is_run : (race : Bool) (width : ℕ) (bus : BusState) (lines : List Line) (b new : BankState) (es : List Entry) → Starts width bus b
@@ -202,7 +190,7 @@ is_run race width bus lines b new es starts keeps history = record {
   kept = keeps_then bus b.bus new.bus starts.kept keeps.lanes;
   legal = λ qry.
       let is = starts.started qry in
-      runs_legally width bus b new es is keeps (history.leads (opening_array b) (record { stands = is.stands; closed = is.erase }));
+      runs_legally race width bus b new es is keeps (λ raced. history.closed raced (opening_array b) is.stands starts.closed) (history.leads (opening_array b) is.stands);
 }
 
 -- ---- what was put
@@ -218,7 +206,6 @@ reports_as race width bus lines b new before after (Ok ran) starts keeps told = 
   halted = told.halted;
 }
 reports_as race width bus lines b new before after (Err (Probe error)) starts keeps told = tt
-reports_as race width bus lines b new before after (Err NotBuilt) starts keeps told = tt
 reports_as race width bus lines b new before after (Err Memory) starts keeps told = tt
 reports_as race width bus lines b new before after (Err (Put error)) starts keeps told = record {
   history = told.history;
@@ -238,16 +225,13 @@ reports race width bus lines b new stopped before after result starts same keeps
     (reports_as race width bus lines b new before after result starts keeps told)
 
 runnable : (width : ℕ) (bus : BusState) (b : BankState) → Starts width bus b → IsRunnable width bus.lanes
-runnable width bus b starts = record {
-  built = starts.built;
-  locks = record { found = b.found; is_found = starts.is_found; locks = starts.locks };
-}
+runnable width bus b starts = record { found = b.found; is_found = starts.is_found }
 
-pub ends_run : (race : Bool) (width : ℕ) (bus : BusState) (b : BankState) (before after : SinkState) (result : Result Ran RunError) → Starts width bus b → EndsLines race before after result
+pub ends_run : (race : Bool) (width : ℕ) (bus : BusState) (b : BankState) (before after : SinkState) (result : Result Ran RunError) → Starts width bus b
+    → EndsLines race before after result
     → EndsRun race width bus.lanes before after result
 ends_run race width bus b before after (Ok ran) starts ends = runnable width bus b starts
 ends_run race width bus b before after (Err (Probe error)) starts ends = absurd ends
-ends_run race width bus b before after (Err NotBuilt) starts ends = absurd ends
 ends_run race width bus b before after (Err Memory) starts ends = (runnable width bus b starts, ends.0, ends.1)
 ends_run race width bus b before after (Err (Put Fault)) starts ends = (runnable width bus b starts, ends)
 ends_run race width bus b before after (Err (Put NoMemory)) starts ends = runnable width bus b starts
@@ -256,14 +240,12 @@ ends_run race width bus b before after (Err (Put NoMemory)) starts ends = runnab
 pub refuses_run : (race : Bool) (width : ℕ) (chips : List ChipState) (before : SinkState) (error : RunError) → Refuses width chips error
     → EndsRun race width chips before before (Err error)
 refuses_run race width chips before (Probe error) why = (why, refl)
-refuses_run race width chips before NotBuilt why = (why, refl)
 refuses_run race width chips before Memory why = absurd why
 refuses_run race width chips before (Put error) why = absurd why
 
 pub refused_reports : (race : Bool) (width : ℕ) (lines : List Line) (chips : List ChipState) (old new : BusState) (before after : SinkState) (error : RunError) → Refuses width chips error
     → Reports race width lines old new before after (Err error)
 refused_reports race width lines chips old new before after (Probe error) why = tt
-refused_reports race width lines chips old new before after NotBuilt why = tt
 refused_reports race width lines chips old new before after Memory why = tt
 refused_reports race width lines chips old new before after (Put error) why = absurd why
 
@@ -334,5 +316,5 @@ image_reports race lines loaded after was now ran result file is same ok told sp
       image = λ agree.
           subst (λ (n : ℕ). IsImageOf file n (map powered new.lanes)) same
           (stores (record { storable = still_storable old new some runs.runs.kept is.storable; agree = agree }));
-      agree = λ qry. still_agree old new some runs.runs.kept.count (runs.runs.legal qry).stays is.agree;
+      agree = λ qry. locks_agree new (after_all (opening_of runs.runs.found old) runs.history).locks (runs.runs.legal qry).holds.locks;
     }

@@ -92,7 +92,7 @@ lines_parts position (x ∷ xs) e rest =
     ∙ (sym (append_assoc first (front ++ line_of_entry (position + suc (length xs)) e) (entry_lines (position + suc (length xs) + 1) rest))
     ∙ ap (λ (t : List ℕ). t ++ entry_lines (position + suc (length xs) + 1) rest) (sym (append_assoc first front (line_of_entry (position + suc (length xs)) e)))))
 
-part_put : (text : List ℕ) (before after : SinkState) (stop : SinkError) → PutsText text before after (Err stop) → AppendsPart before.taken text after.taken
+pub part_put : (text : List ℕ) (before after : SinkState) (stop : SinkError) → PutsText text before after (Err stop) → AppendsPart before.taken text after.taken
 part_put text before after Fault puts = puts.1
 part_put text before after NoMemory puts = puts
 

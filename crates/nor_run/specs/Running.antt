@@ -1,64 +1,113 @@
 -- What running the lines of a script makes of a bank.
-use Rattle.std.specs.Prelude.{◌≡◌, ◌≤◌, ◌⊎◌, ℕ, List, [], length, take, map, Bool, true, false, None, Result, Ok, Err}
+use Rattle.std.specs.Prelude.{◌≡◌, ◌≢◌, ◌≤◌, ◌⊎◌, ◌+◌, ◌++◌, ◌∷◌, ◌||◌, ℕ, List, [], length, take, map, Bool, true, false, Some, None, Result, Ok, Err}
 use Rattle.nor_cell.specs.Chip.{ChipState}
-use Rattle.nor_bus.specs.Driven.{EachLane}
 use Rattle.nor_array.specs.Array.{ArrayState}
-use Rattle.nor_array.specs.After.{after_all}
-use Rattle.nor_array.specs.Legal.{Legal}
 use Rattle.nor_array.specs.declared.entry.Entry.{Entry}
 use Rattle.nor_array.specs.declared.entry.Op.{Op}
+use Rattle.nor_array.specs.declared.entry.Op.TheVariants.{Read, Poll}
 use Rattle.nor_array.specs.declared.entry.Reply.{Reply}
+use Rattle.nor_array.specs.declared.entry.Reply.TheVariants.{NotYet}
 use Rattle.nor_io.specs.Files.{SinkState, Rose, Appends, AppendsPart}
 use Rattle.nor_io.specs.declared.sink.SinkError.TheVariants.{Fault, NoMemory}
-use Rattle.nor_array.specs.Entries.{IsOf, has_halt}
-use Rattle.nor_script.specs.Answering.{Answers}
+use Rattle.nor_array.specs.Entries.{has_halt}
+use Rattle.nor_script.specs.Answering.{Answers, NotOpened, OpenedAndClosed}
 use Rattle.nor_script.specs.Report.{entry_lines, report_text}
 use Rattle.nor_script.specs.declared.line.Line.{Line}
-use Rattle.nor_script.specs.declared.line.Word.{Word}
-use Rattle.nor_script.specs.declared.line.Word.TheVariants.{Call, Erase, EraseAll}
-use Rattle.nor_bank.specs.Calls.{MakesEntry, facts_of}
+use Rattle.nor_bank.specs.Calls.{entry_of}
+use Rattle.nor_history.specs.Histories.{Makes, Leads}
 use Rattle.nor_bank.specs.Stands.{Stands}
 use Rattle.nor_bank.specs.State.{BankState}
-use Rattle.nor_bank.specs.Work.{StandsClosed, StaysFiled}
-use Rattle.nor_run.specs.Taking.{Takes, Hands, TakesAll, StopsIn, PutsEntry}
+use Rattle.nor_bank.specs.Work.{KeepsBank}
+use Rattle.nor_bank.specs.declared.kept.Erasing.{Erasing}
+use Rattle.nor_run.specs.Taking.{told, Takes, TakesAll, StopsIn, PutsEntry}
 use Rattle.nor_run.specs.declared.error.RunError.{RunError}
-use Rattle.nor_run.specs.declared.error.RunError.TheVariants.{Probe, NotBuilt, NoMemory as Memory, Put}
+use Rattle.nor_run.specs.declared.error.RunError.TheVariants.{Probe, NoMemory as Memory, Put}
 use Rattle.nor_run.specs.declared.lines.Ran.{Ran}
+
+-- ---- one call
+
+-- what was run, with these entries more
+abbrev pub ran_over : Ran → List Entry → Ran
+ran_over ran es = record { entries = ran.entries + length es; halted = ran.halted || has_halt es }
+
+-- The taker stopped at one of these entries, the first of which has this place. At most one comes behind it: an erase is
+-- closed before its two entries are handed over.
+pub record StopsFrom {T E : Type 0} (takes : Takes T E) (position : ℕ) (es : List Entry) (before after : T) (stop : E)
+    : Type 0 where
+  pub taken : List Entry
+  pub entry : Entry
+  pub rest : List Entry
+  pub parts : es ≡ taken ++ entry ∷ rest
+  pub mid : T
+  pub took : TakesAll takes position taken before mid
+  pub stops : takes (position + length taken) (told entry) mid after (Err stop)
+  pub last : length rest ≤ 1
+
+-- It took them all, or it stopped.
+abbrev pub Gives : {T E : Type 0} → Takes T E → Ran → List Entry → (before after : T) → Result Ran E → Type 0
+Gives takes ran es before after (Ok now) = TakesAll takes ran.entries es before after × (now ≡ ran_over ran es)
+Gives takes ran es before after (Err stop) = StopsFrom takes ran.entries es before after stop
+
+-- It took this entry, which is counted, or it stopped.
+abbrev pub HandsOn : {T E : Type 0} → Takes T E → Ran → Entry → (before after : T) → Result Ran E → Type 0
+HandsOn takes ran e before after (Ok now) =
+    takes ran.entries (told e) before after (Ok tt) × (now ≡ ran_over ran (e ∷ []))
+HandsOn takes ran e before after (Err stop) = takes ran.entries (told e) before after (Err stop)
+
+-- A call was made, and its entry handed over.
+pub record RunsCall {T E : Type 0} (takes : Takes T E) (caller : ℕ) (op : Op) (ran : Ran) (old new : BankState)
+    (before after : T) (result : Result Ran E) : Type 0 where
+  pub reply : Reply
+  pub given : List ℕ
+  pub makes : Makes caller op old new reply given
+  pub hands : HandsOn takes ran (entry_of old new caller op reply given) before after result
+
+-- the call gives bytes
+abbrev pub is_read : Op → Bool
+is_read (Read at len) = true
+is_read op = false
 
 -- ---- one line
 
--- A call was made and its entry handed over. Each array for which the bank stood admits it, and the bank stands for the
--- array after it. Where nothing was under erase nothing is, and all that a file keeps of a chip stays but its bytes.
-pub record RunsCall {T E : Type 0} (takes : Takes T E) (caller : ℕ) (op : Op) (position : ℕ) (old new : BankState)
-    (before after : T) (result : Result Reply E) : Type 0 where
-  pub entry : Entry
-  pub is : IsOf caller op entry
-  pub makes : (a : ArrayState) → Stands old a → MakesEntry old new entry a
-  pub closed : old.erase ≡ None → new.erase ≡ None
-  pub stays : (a : ArrayState) → StandsClosed old a → EachLane StaysFiled old.bus new.bus
-  pub hands : Hands takes position entry before after result
+-- This caller's erase is under way.
+pub record IsPolled (caller : ℕ) (b : BankState) : Type 0 where
+  pub erase : Erasing
+  pub is : b.erase ≡ Some erase
+  pub own : erase.caller ≡ caller
 
--- The call of a line was made so; no other line is built.
-abbrev pub RunsWord : {T E : Type 0} → Takes T E → Word → ℕ → ℕ → (old new : BankState) → (before after : T)
-    → Result Reply E → Type 0
-RunsWord takes (Call op) caller position old new before after result =
-    RunsCall takes caller op position old new before after result
-RunsWord takes (Erase b) caller position old new before after result = ⊥
-RunsWord takes EraseAll caller position old new before after result = ⊥
+-- It was polled until it ended, or the bank halted. The polls that had to wait make no entry, and change nothing of an
+-- array for which the bank stood.
+pub record PollsOn (caller : ℕ) (old new : BankState) (reply : Reply) : Type 0 where
+  pub mid : BankState
+  pub keeps : KeepsBank old mid
+  pub waits : (a : ArrayState) → Stands old a → Leads [] old mid a
+  pub last : Makes caller Poll mid new reply []
+  pub ended : reply ≢ NotYet
+
+-- The entries are those of an erase that this call opens, or doesn't.
+abbrev pub AnswersErase : ℕ → Op → List Entry → Type 0
+AnswersErase caller op [] = ⊥
+AnswersErase caller op (e ∷ []) = NotOpened caller op e
+AnswersErase caller op (e ∷ close ∷ []) = OpenedAndClosed caller op e close
+AnswersErase caller op (e ∷ close ∷ more ∷ entries) = ⊥
+
+-- Entries were made that answer what was asked for, they lead from each array for which the bank stood, and they were
+-- handed over.
+pub record RunsTo {T E : Type 0} (takes : Takes T E) (Asked : List Entry → Type 0) (ran : Ran) (old new : BankState)
+    (before after : T) (result : Result Ran E) : Type 0 where
+  pub entries : List Entry
+  pub answers : Asked entries
+  pub leads : (a : ArrayState) → Stands old a → Leads entries old new a
+  pub gives : Gives takes ran entries before after result
 
 -- ---- all lines
 
--- The entries are a legal history from an array, and led the bank from old, which stood for it, to new, which stands
--- for the array after them, with nothing under erase: all that a file keeps of each chip is as it was, but its bytes.
-pub record Leads (es : List Entry) (old new : BankState) (a : ArrayState) : Type 0 where
-  pub legal : Legal (facts_of old) a es
-  pub stands : StandsClosed new (after_all a es)
-  pub stays : EachLane StaysFiled old.bus new.bus
-
--- The entries answer the lines, run by one thread or raced, and lead from each array for which the bank stood.
+-- The entries answer the lines, run by one thread or raced, and lead from each array for which the bank stood. A race
+-- leaves nothing under erase.
 pub record IsHistoryOf (race : Bool) (lines : List Line) (old new : BankState) (es : List Entry) : Type 0 where
   pub answers : Answers race lines es
-  pub leads : (a : ArrayState) → StandsClosed old a → Leads es old new a
+  pub leads : (a : ArrayState) → Stands old a → Leads es old new a
+  pub closed : race ≡ true → (a : ArrayState) → Stands old a → old.erase ≡ None → new.erase ≡ None
 
 -- All lines were run, and the taker took the history.
 pub record RunsWhole {T E : Type 0} (takes : Takes T E) (race : Bool) (lines : List Line) (old new : BankState)
@@ -74,7 +123,7 @@ abbrev pub IsCount : (race : Bool) → List Line → ℕ → Type 0
 IsCount false lines count = Unit {0}
 IsCount true lines count = count ≡ length lines
 
--- The taker stopped at an entry: the last of those of the first lines, or in a race any of all.
+-- The taker stopped at an entry: one of the last line that was run, or in a race any of all.
 pub record RunsPart {T E : Type 0} (takes : Takes T E) (race : Bool) (lines : List Line) (old new : BankState)
     (before after : T) (stop : E) : Type 0 where
   pub history : List Entry
@@ -82,7 +131,7 @@ pub record RunsPart {T E : Type 0} (takes : Takes T E) (race : Bool) (lines : Li
   pub all : IsCount race lines count
   pub is : IsHistoryOf race (take count lines) old new history
   pub stops : StopsIn takes history before after stop
-  pub last : race ≡ false → stops.rest ≡ []
+  pub last : race ≡ false → length stops.rest ≤ 1
 
 -- ---- for a report
 
@@ -91,7 +140,6 @@ abbrev pub RunsLines : (race : Bool) → List Line → (old new : BankState) →
     → Result Ran RunError → Type 0
 RunsLines race lines old new before after (Ok ran) = RunsWhole PutsEntry race lines old new before after ran
 RunsLines race lines old new before after (Err (Probe error)) = ⊥
-RunsLines race lines old new before after (Err NotBuilt) = ⊥
 RunsLines race lines old new before after (Err Memory) = Unit {0}
 RunsLines race lines old new before after (Err (Put error)) =
     RunsPart PutsEntry race lines old new before after error
@@ -104,7 +152,6 @@ Untouched before after = after ≡ before
 abbrev pub EndsLines : (race : Bool) → (before after : SinkState) → Result Ran RunError → Type 0
 EndsLines race before after (Ok ran) = Unit {0}
 EndsLines race before after (Err (Probe error)) = ⊥
-EndsLines race before after (Err NotBuilt) = ⊥
 EndsLines race before after (Err Memory) = (race ≡ true) × Untouched before after
 EndsLines race before after (Err (Put Fault)) = Rose before.faults after.faults
 EndsLines race before after (Err (Put NoMemory)) = Unit {0}
@@ -146,6 +193,5 @@ abbrev pub ReportsLines : (race : Bool) → List Line → (old new : BankState) 
     → Result Ran RunError → Type 0
 ReportsLines race lines old new before after (Ok ran) = ReportsWhole race lines old new before after ran
 ReportsLines race lines old new before after (Err (Probe error)) = ⊥
-ReportsLines race lines old new before after (Err NotBuilt) = ⊥
 ReportsLines race lines old new before after (Err Memory) = Unit {0}
 ReportsLines race lines old new before after (Err (Put error)) = ReportsPart race lines old new before after

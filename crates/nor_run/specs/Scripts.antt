@@ -1,5 +1,5 @@
 -- What running a script on a bank that was just loaded makes.
-use Rattle.std.specs.Prelude.{◌≡◌, ◌≢◌, ◌<◌, ◌⊎◌, ℕ, List, length, map, take, Result, Ok, Err, slice_index, Bool, true, false, Some, None}
+use Rattle.std.specs.Prelude.{◌≡◌, ◌≢◌, ◌<◌, ℕ, List, length, map, take, Result, Ok, Err, slice_index, Bool, true, false, Some, None}
 use Rattle.nor_cell.specs.Between.{IsQuiet}
 use Rattle.nor_cell.specs.Chip.{ChipState}
 use Rattle.nor_cell.specs.Power.{powered, locks_after}
@@ -7,7 +7,6 @@ use Rattle.nor_cell.specs.declared.device.Device.{Device}
 use Rattle.nor_bus.specs.Bus.{BusState, IsBank, lane, bank_byte, bank_bytes, bank_size}
 use Rattle.nor_bus.specs.Cycles.{KeepsLanes}
 use Rattle.nor_bus.specs.Driven.{AllLanes, EachLane}
-use Rattle.nor_query.specs.Derived.{locks_of}
 use Rattle.nor_probe.specs.Probed.{refusal, IsFoundOn}
 use Rattle.nor_probe.specs.declared.error.ProbeError.{ProbeError}
 use Rattle.nor_probe.specs.declared.error.ProbeError.TheVariants.{Off as LostPower}
@@ -24,16 +23,15 @@ use Rattle.nor_script.specs.declared.line.Line.{Line}
 use Rattle.nor_io.specs.Files.{SinkState, Rose, Appends, AppendsPart}
 use Rattle.nor_io.specs.declared.sink.SinkError.TheVariants.{Fault, NoMemory}
 use Rattle.nor_bank.specs.Calls.{facts_of}
-use Rattle.nor_bank.specs.Stands.{Stands, constants_of}
+use Rattle.nor_history.specs.Histories.{opened, risen}
+use Rattle.nor_bank.specs.Stands.{Stands, constants_of, is_under}
 use Rattle.nor_bank.specs.State.{BankState}
-use Rattle.nor_bank.specs.Work.{StaysFiled}
 use Rattle.nor_image.specs.Image.{IsImageOf, device_of}
 use Rattle.nor_image.specs.Loaded.{bus_of, loaded_width, IsFreshBus}
 use Rattle.nor_image.specs.Written.{file_of, AreStorable, AgreeOnLocks}
 use Rattle.nor_image.specs.declared.loaded.Loaded.{Loaded}
 use Rattle.nor_run.specs.declared.error.RunError.{RunError}
-use Rattle.nor_run.specs.declared.error.RunError.TheVariants.{Probe, NotBuilt, NoMemory as Memory, Put}
-use Rattle.nor_run.specs.Built.{is_built_bank}
+use Rattle.nor_run.specs.declared.error.RunError.TheVariants.{Probe, NoMemory as Memory, Put}
 use Rattle.nor_run.specs.Running.{counters_of, IsCount, IsDue, Untouched}
 use Rattle.nor_run.specs.declared.lines.Ran.{Ran}
 
@@ -50,10 +48,12 @@ opening_of found bus =
     opening (constants_of found bus.lanes (lane bus 0).locks)
     (bank_bytes found.geometry.device bus.lanes 0 (bank_size bus.lanes))
 
--- The cells are the bytes of the array.
-pub record HoldsBytes (found : Found) (bus : BusState) (a : ArrayState) : Type 0 where
+-- The cells are the bytes of the array outside what is under erase, and each chip's locks are the array's.
+pub record HoldsArray (found : Found) (bus : BusState) (a : ArrayState) : Type 0 where
   pub size : length a.bytes ≡ bank_size bus.lanes
-  pub bytes : (p : ℕ) → p < length a.bytes → slice_index a.bytes p ≡ bank_byte found.geometry.device bus.lanes p
+  pub bytes : (p : ℕ) → p < length a.bytes → is_under a.under a.consts p ≡ false
+      → slice_index a.bytes p ≡ bank_byte found.geometry.device bus.lanes p
+  pub locks : AllLanes (λ s. s.locks ≡ a.locks) bus
 
 -- A bank on this bus, of which this was found, stands for the array.
 pub record StandsOn (found : Found) (bus : BusState) (a : ArrayState) : Type 0 where
@@ -65,12 +65,14 @@ pub record StandsOn (found : Found) (bus : BusState) (a : ArrayState) : Type 0 w
 -- ---- what was run
 
 -- The entries are a legal history from the opening array, and led the bus from old to new, which stands for the array
--- after them. All that a file keeps of each chip is as it was but the cells, which are the bytes of that array.
-pub record RunsLegally (old new : BusState) (found : Found) (es : List Entry) : Type 0 where
+-- after them: it holds the bytes and the locks of that array. Each lane counts the erases that were opened. A race leaves
+-- nothing under erase.
+pub record RunsLegally (race : Bool) (old new : BusState) (found : Found) (es : List Entry) : Type 0 where
   pub legal : Legal (facts_of (started found old)) (opening_of found old) es
-  pub stays : EachLane StaysFiled old new
   pub stands : StandsOn found new (after_all (opening_of found old) es)
-  pub holds : HoldsBytes found new (after_all (opening_of found old) es)
+  pub holds : HoldsArray found new (after_all (opening_of found old) es)
+  pub erases : EachLane (λ s t. t.erases ≡ risen s.erases (opened es)) old new
+  pub closed : race ≡ true → (after_all (opening_of found old) es).under ≡ None
 
 -- The entries answer the lines, and each chip stays what it is. Where the chips' tables begin with `QRY`, the entries
 -- are a legal history.
@@ -79,7 +81,7 @@ pub record IsRunOf (race : Bool) (width : ℕ) (lines : List Line) (old new : Bu
   pub is_found : IsFoundOn width old.lanes found
   pub answers : Answers race lines es
   pub kept : KeepsLanes old new
-  pub legal : AllLanes HasLetters old → RunsLegally old new found es
+  pub legal : AllLanes HasLetters old → RunsLegally race old new found es
 
 -- All lines were run so, and the report of the entries was put.
 pub record RunsScript (race : Bool) (width : ℕ) (lines : List Line) (old new : BusState)
@@ -104,33 +106,20 @@ pub record RunsPartly (race : Bool) (width : ℕ) (lines : List Line) (old new :
 
 -- ---- how it ends
 
--- what was found of the bank offers locks, or not
-pub record FindsLocks (width : ℕ) (chips : List ChipState) (offers : Bool) : Type 0 where
+-- probing accepts the chips
+pub record IsRunnable (width : ℕ) (chips : List ChipState) : Type 0 where
   pub found : Found
   pub is_found : IsFoundOn width chips found
-  pub locks : locks_of found.query.extended ≡ offers
 
--- running is built for the chips, and the table that was found offers no locks
-pub record IsRunnable (width : ℕ) (chips : List ChipState) : Type 0 where
-  pub built : is_built_bank chips ≡ true
-  pub locks : FindsLocks width chips false
-
--- probing refuses the chips, for which running is built
+-- probing refuses the chips
 pub record IsUnfound (width : ℕ) (chips : List ChipState) (error : ProbeError) : Type 0 where
-  pub built : is_built_bank chips ≡ true
   pub refused : refusal width chips ≡ Some error
   pub powered : error ≢ LostPower
 
--- running isn't built for the chips, or their table offers locks
-abbrev pub IsUnbuilt : (width : ℕ) → List ChipState → Type 0
-IsUnbuilt width chips = (is_built_bank chips ≡ false) ⊎ ((is_built_bank chips ≡ true) × FindsLocks width chips true)
-
--- Why a bank of these chips is run, or not: running isn't built for its chips, probing refuses it, its table offers
--- locks, or a race wants memory.
+-- Why a bank of these chips is run, or not: probing refuses it, or a race wants memory.
 abbrev pub EndsRun : (race : Bool) → ℕ → List ChipState → (before after : SinkState) → Result Ran RunError → Type 0
 EndsRun race width chips before after (Ok ran) = IsRunnable width chips
 EndsRun race width chips before after (Err (Probe error)) = IsUnfound width chips error × Untouched before after
-EndsRun race width chips before after (Err NotBuilt) = IsUnbuilt width chips × Untouched before after
 EndsRun race width chips before after (Err Memory) =
     IsRunnable width chips × (race ≡ true) × Untouched before after
 EndsRun race width chips before after (Err (Put Fault)) =
@@ -142,7 +131,6 @@ abbrev pub Reports : (race : Bool) → ℕ → List Line → (old new : BusState
     → Result Ran RunError → Type 0
 Reports race width lines old new before after (Ok ran) = RunsScript race width lines old new before after ran
 Reports race width lines old new before after (Err (Probe error)) = Unit {0}
-Reports race width lines old new before after (Err NotBuilt) = Unit {0}
 Reports race width lines old new before after (Err Memory) = Unit {0}
 Reports race width lines old new before after (Err (Put error)) = RunsPartly race width lines old new before after
 
@@ -190,7 +178,6 @@ abbrev pub ReportsImage : (race : Bool) → ℕ → List Line → BusState → (
     → Result Ran RunError → Type 0
 ReportsImage race width lines old before after file (Ok ran) = RunsImage race width lines old before after ran file
 ReportsImage race width lines old before after file (Err (Probe error)) = Unit {0}
-ReportsImage race width lines old before after file (Err NotBuilt) = Unit {0}
 ReportsImage race width lines old before after file (Err Memory) = Unit {0}
 ReportsImage race width lines old before after file (Err (Put error)) =
     (new : BusState) × RunsPartly race width lines old new before after

@@ -1,18 +1,16 @@
 -- A bank that was started for a script.
-use Rattle.std.specs.Prelude.{◌≡◌, ℕ, List, true, false, None, Result, Ok, Err}
+use Rattle.std.specs.Prelude.{◌≡◌, ℕ, List, None, Result, Ok, Err}
 use Rattle.nor_cell.specs.Chip.{ChipState}
 use Rattle.nor_bus.specs.Bus.{BusState}
 use Rattle.nor_bus.specs.Cycles.{KeepsLanes}
 use Rattle.nor_bus.specs.Driven.{AllLanes}
 use Rattle.nor_io.specs.declared.sink.SinkError.{SinkError}
 use Rattle.nor_probe.specs.Probed.{IsFoundOn}
-use Rattle.nor_query.specs.Derived.{locks_of}
 use Rattle.nor_bank.specs.Stands.{Stands, opening_array}
 use Rattle.nor_bank.specs.State.{BankState}
-use Rattle.nor_run.specs.Built.{is_built_bank}
-use Rattle.nor_run.specs.Scripts.{HasLetters, IsUnfound, IsUnbuilt}
+use Rattle.nor_run.specs.Scripts.{HasLetters, IsUnfound}
 use Rattle.nor_run.specs.declared.error.RunError.{RunError}
-use Rattle.nor_run.specs.declared.error.RunError.TheVariants.{Probe, NotBuilt, NoMemory as Memory, Put}
+use Rattle.nor_run.specs.declared.error.RunError.TheVariants.{Probe, NoMemory as Memory, Put}
 use Rattle.nor_run.specs.declared.lines.Ran.{Ran}
 
 abbrev pub of_put : Result Ran SinkError → Result Ran RunError
@@ -28,11 +26,10 @@ pub record IsStarted (width : ℕ) (bus : BusState) (b : BankState) : Type 0 whe
   pub unarmed : b.bus.armed ≡ None
   pub stands : Stands b (opening_array b)
 
--- Running is built for the bank, and it was started.
+-- The bank was started.
 pub record Starts (width : ℕ) (bus : BusState) (b : BankState) : Type 0 where
-  pub built : is_built_bank bus.lanes ≡ true
   pub is_found : IsFoundOn width bus.lanes b.found
-  pub locks : locks_of b.found.query.extended ≡ false
+  pub running : b.halted ≡ None
   pub closed : b.erase ≡ None
   pub kept : KeepsLanes bus b.bus
   pub started : AllLanes HasLetters bus → IsStarted width bus b
@@ -40,6 +37,5 @@ pub record Starts (width : ℕ) (bus : BusState) (b : BankState) : Type 0 where
 -- Why it wasn't.
 abbrev pub Refuses : ℕ → List ChipState → RunError → Type 0
 Refuses width chips (Probe error) = IsUnfound width chips error
-Refuses width chips NotBuilt = IsUnbuilt width chips
 Refuses width chips Memory = ⊥
 Refuses width chips (Put error) = ⊥

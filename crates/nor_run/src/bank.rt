@@ -1,15 +1,16 @@
 //! A script on one bank of simulated chips.
 ghost use Rattle.std.specs.Prelude.{◌≡◌, ◌≤◌, ℕ, List, Bool, Option, true, false, IfOk, IfErr};
 ghost use Rattle.nor_io.specs.Files.{SinkState};
+ghost use Rattle.nor_cell.specs.Ranges.{IsChip};
 ghost use Rattle.nor_bus.specs.Cycles.{KeepsLanes};
+ghost use Rattle.nor_bus.specs.Driven.{AllLanes};
 ghost use Rattle.nor_bank.specs.State.{BankState};
 ghost use Rattle.nor_script.specs.declared.line.Line.{Line as LineOf};
-ghost use Rattle.nor_run.specs.Built.{are_built};
+ghost use Rattle.nor_script.specs.Script.{IsScript};
 ghost use Rattle.nor_run.specs.Running.{RunsLines, EndsLines, ReportsLines};
 ghost use Rattle.nor_run.specs.Started.{of_put, Starts, Refuses};
 ghost use Rattle.nor_run.specs.Scripts.{IsJustLoaded, EndsRun, Reports};
 
-use crate::built::is_built_for;
 use crate::counters::put_counters;
 use crate::lines::run_lines;
 use crate::{Ran, RunError};
@@ -30,11 +31,19 @@ pub fn of_put(ran: Result<Ran, SinkError>) -> Result<Ran, RunError>
     }
 }
 
-/// Starts a bank that was just loaded, where running is built for it.
+// Looks at each chip, which tells of itself that its table, cells and locks are in range.
+fn see_chips<W: BusWord, C: Chip + Drop>(bank: &SimBank<W, C>)
+    ensures { AllLanes IsChip bank.now }
+{
+    for lane in 0..bank.chips().len() as u8 {
+        let _cells = bank.chip(lane).cells();
+    }
+}
+
+/// Starts a bank that was just loaded.
 ///
 /// # Errors
-/// With the bank: `NotBuilt` where a chip has a weak place or is stuck, or where probing accepts the bank
-/// and its table offers locks; `Probe` where probing refuses a bank whose chips are sound.
+/// With the bank: `Probe` where probing refuses it.
 pub fn start_bank<W: BusWord, C: Chip + Drop>(
     bank: SimBank<W, C>,
 ) -> Result<Bank<W, SimBank<W, C>>, (SimBank<W, C>, RunError)>
@@ -43,16 +52,9 @@ pub fn start_bank<W: BusWord, C: Chip + Drop>(
     ensures refused { IfErr result (λ back. Refuses W.WIDTH bank.lanes back.1) }
     ensures back { IfErr result (λ back. KeepsLanes bank back.0) }
 {
-    if !is_built_for(&bank) {
-        return Err((bank, RunError::NotBuilt));
-    }
+    see_chips(&bank);
     match Bank::start(bank) {
-        Ok(bank) => {
-            if bank.found().query.has_locks() {
-                return Err((bank.stop(), RunError::NotBuilt));
-            }
-            Ok(bank)
-        }
+        Ok(bank) => Ok(bank),
         Err((bank, error)) => Err((bank, RunError::Probe(error))),
     }
 }
@@ -88,7 +90,7 @@ pub fn run_bank<W: BusWord, C: Chip + Drop, K: Sink>(
     lines: &[Line],
     out: &mut K,
 ) -> (SimBank<W, C>, Result<Ran, RunError>)
-    requires built { are_built lines.now ≡ true }
+    requires script { IsScript lines.now }
     requires loaded { IsJustLoaded W.WIDTH bank }
     ensures ends { EndsRun false W.WIDTH bank.lanes (K.state out.old) (K.state out.new) result.1 }
     ensures reports { Reports false W.WIDTH lines.now bank result.0

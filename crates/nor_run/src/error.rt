@@ -6,8 +6,6 @@ use nor_probe::ProbeError;
 pub enum RunError {
     /// Probing refuses the bank.
     Probe(ProbeError),
-    /// Running isn't built for such a bank yet.
-    NotBuilt,
     /// A race wanted memory, before its first line.
     NoMemory,
     /// The report wasn't put whole.

@@ -3,7 +3,7 @@ ghost use Rattle.std.specs.Prelude.{◌≡◌, ◌≤◌, true, false, IsErr, If
 ghost use Rattle.nor_bus.specs.Cycles.{KeepsLanes};
 ghost use Rattle.nor_bus.specs.Driven.{AllLanes};
 ghost use Rattle.nor_image.specs.Loaded.{bus_of, loaded_width};
-ghost use Rattle.nor_run.specs.Built.{are_built};
+ghost use Rattle.nor_script.specs.Script.{IsScript};
 ghost use Rattle.nor_run.specs.Causes.{MayHalt};
 ghost use Rattle.nor_run.specs.Scripts.{IsJustLoaded, IsLoaded, HasRoom, HasLetters, EndsRun, Reports, ReportsImage};
 
@@ -60,7 +60,7 @@ fn run_loaded<K: Sink>(
     lines: &[Line],
     out: &mut K,
 ) -> (Loaded, Result<Ran, RunError>)
-    requires built { are_built lines.now ≡ true }
+    requires script { IsScript lines.now }
     requires loaded { IsJustLoaded (loaded_width loaded) (bus_of loaded) }
     ensures width { loaded_width result.0 ≡ loaded_width loaded }
     ensures ends { EndsRun false (loaded_width loaded) (bus_of loaded).lanes
@@ -73,28 +73,27 @@ fn run_loaded<K: Sink>(
     with_each_bank!(loaded, bank => run_bank(bank, lines, out))
 }
 
-/// Runs a script on the bank that was loaded from a file, and puts the report: the entry of each line
-/// as soon as it is made, each lane's counters, and the number of entries. The bytes of the file to save
+/// Runs a script on the bank that was loaded from a file, and puts the report: the entries of each line
+/// as soon as they are made, each lane's counters, and the number of entries. The bytes of the file to save
 /// become the version 2 file of the bank as it then is: they must be as many.
 ///
-/// Each line must be built. `NotBuilt` comes exactly where [`crate::is_built`] isn't true of the bank, or
-/// where probing accepts it and its table offers locks; `Probe` exactly where probing refuses a bank that
-/// running is built for. Both put nothing. `Put` comes only from the sink. After an error the bytes are
-/// as they were. It takes no memory, and never answers `NoMemory`.
+/// The lines must be those of a script. `Probe` comes exactly where probing refuses the bank, and nothing is
+/// put. `Put` comes only from the sink. After an error the bytes are as they were. It takes no memory, and
+/// never answers `NoMemory`.
 ///
 /// The report is that of entries that answer the lines, and of the chips' counters, and the file is that of
 /// the bank, whose chips stay what they are; after `Put` the sink has taken a first part of the lines of entries
 /// that answer the first lines, or of such a report of all. Where the chips' tables begin with `QRY`, the entries
-/// are a legal history of the plain array that opens with the bank's bytes and locks, and the file stands for a
-/// bank that is as before, but for its cells, which are the array's bytes after it; the bank halts only where a
-/// line arms a cut or a chip never ends its work.
+/// are a legal history of the plain array that opens with the bank's bytes and locks. The bank then has the locks
+/// of the array after it, and, outside what the script leaves under erase, its bytes; each lane's erases have
+/// risen by those that were opened. The bank halts only where a line arms a cut or a chip never ends its work.
 pub fn run_image<K: Sink>(
     loaded: Loaded,
     file: &mut [u8],
     lines: &[Line],
     out: &mut K,
 ) -> Result<Ran, RunError>
-    requires built { are_built lines.now ≡ true }
+    requires script { IsScript lines.now }
     requires loaded { IsLoaded loaded }
     requires room { HasRoom file.old loaded }
     ensures ends { EndsRun false (loaded_width loaded) (bus_of loaded).lanes

@@ -1,4 +1,4 @@
--- Each line that is read has its caller.
+-- Each line that is read has its caller, and each of a race may be raced.
 use Rattle.std.proofs.Common.{◌≡◌, ◌≤◌, ◌+◌, ℕ, List, [], ◌∷◌, length, Bool, true, false, nat_lt, if◌then◌else◌, Option, Some, None, Result, Ok, Err, All, refl, subst, arith}
 use Rattle.std.specs.Prelude.{◌==◌, ◌||◌, codes}
 use Rattle.std.specs.List.{list_all}
@@ -6,12 +6,13 @@ use Rattle.std.specs.Str.{bytes_eq}
 use Rattle.std.proofs.lemmas.List.Elements.{All-nil, All-cons}
 use Rattle.nor_script.specs.Grammar.{◌>>=◌, found, checked, is_caller, caller_of, verb_of, caller_head, head_of, word_of, line_of, number_at, byte_at, data_at, field_of, fields, field_count, is_printable, may_stand}
 use Rattle.nor_script.specs.Numbers.{number_of}
+use Rattle.nor_script.specs.Racing.{IsRaceScript, may_race}
 use Rattle.nor_script.specs.Script.{lines_of, is_skipped, has_caller, with_line, script_from, script_of, HasCaller, IsScript}
 use Rattle.nor_script.specs.declared.line.Line.{Line}
 use Rattle.nor_script.specs.declared.line.Word.{Word}
 use Rattle.nor_script.specs.declared.error.LineKind.TheVariants.{Bytes, Count, NotHere}
 use Rattle.nor_script.specs.declared.error.ScriptError.{ScriptError}
-use Rattle.nor_script.specs.declared.error.ScriptError.TheVariants.{TooManyLines}
+use Rattle.nor_script.specs.declared.error.ScriptError.TheVariants.{BadLine, TooManyLines}
 use Rattle.nor_script.specs.declared.verb.Verb.{Verb}
 use Rattle.nor_script.specs.declared.verb.Verb.TheVariants.{Read, Program, Erase, EraseAll, Open, OpenAll, Poll, Lock, Unlock, Locked, Cut, Reboot}
 use Rattle.nor_script.specs.declared.verb.Head.{Head}
@@ -136,33 +137,62 @@ word_has_caller Reboot n line word caller is has = subst (λ (w : Word). HasCall
 
 -- ---- a line, and all of them
 
+-- what a line of a race may ask for
+word_races : (has : Bool) (verb : Verb) (n : ℕ) (line : List ℕ) (word : Word) → word_of verb n line ≡ Ok word → may_stand true has verb ≡ true → may_race word ≡ true
+word_races has Read n line word is stands =
+    let at = stepped (number_at n line 2) _ word is in
+    let len = stepped (number_at n line 3) _ word at.rest in
+    subst (λ (w : Word). may_race w ≡ true) (ok_is len.rest) refl
+word_races has Program n line word is stands =
+    let at = stepped (number_at n line 2) _ word is in
+    let new = stepped (data_at n line 3) _ word at.rest in
+    subst (λ (w : Word). may_race w ≡ true) (ok_is new.rest) refl
+word_races has Erase n line word is stands = subst (λ (w : Word). may_race w ≡ true) (ok_is (stepped (number_at n line 2) _ word is).rest) refl
+word_races has EraseAll n line word is stands = subst (λ (w : Word). may_race w ≡ true) (ok_is is) refl
+word_races has Lock n line word is stands = subst (λ (w : Word). may_race w ≡ true) (ok_is (stepped (number_at n line 2) _ word is).rest) refl
+word_races has Unlock n line word is stands = subst (λ (w : Word). may_race w ≡ true) (ok_is (stepped (number_at n line 2) _ word is).rest) refl
+word_races has Locked n line word is stands = subst (λ (w : Word). may_race w ≡ true) (ok_is (stepped (number_at n line 2) _ word is).rest) refl
+word_races has Cut n line word is stands =
+    let cycles = stepped (number_at n line 1) _ word is in
+    let mask = stepped (byte_at n line 2) _ word cycles.rest in
+    subst (λ (w : Word). may_race w ≡ true) (ok_is mask.rest) refl
+word_races has verb n line word is stands = absurd (let no : ⊥ = cc in no)
+
+-- What is known of a line that was read: its caller, and that it is one of a race where it was read as such.
+pub record IsSaid (race : Bool) (line : Line) : Type 0 where
+  pub caller : HasCaller line.word line.caller
+  pub raced : race ≡ true → may_race line.word ≡ true
+
 no_line : (e : ScriptError) (line : Line) → Err e ≡ Ok line → ⊥
 no_line e line same = cc
 
-after_word : (caller n : ℕ) (line : Line) (w : Result Word ScriptError) (placed : Result (Unit {0}) ScriptError)
-    → ((word : Word) → w ≡ Ok word → HasCaller word caller)
-    → (w >>= (λ word. placed >>= (λ done. Ok (record { caller = caller; number = n; word = word })))) ≡ Ok line
-    → HasCaller line.word line.caller
-after_word caller n line (Err e) placed has is = absurd (no_line e line is)
-after_word caller n line (Ok word) (Err e) has is = absurd (no_line e line is)
-after_word caller n line (Ok word) (Ok done) has is = subst (λ (l : Line). HasCaller l.word l.caller) (ok_is is) (has word refl)
+after_word : (race has : Bool) (n : ℕ) (text : List ℕ) (line : Line) (head : Head) (w : Result Word ScriptError) (stands : Bool)
+    → word_of head.verb n text ≡ w → may_stand race has head.verb ≡ stands → VerbHasCaller head.verb head.caller
+    → (w >>= (λ word. checked stands NotHere n >>= (λ done. Ok (record { caller = head.caller; number = n; word = word })))) ≡ Ok line
+    → IsSaid race line
+after_word race has n text line head (Err e) stands said may called is = absurd (no_line e line is)
+after_word race has n text line head (Ok word) false said may called is = absurd (no_line (BadLine n NotHere) line is)
+after_word race has n text line head (Ok word) true said may called is =
+    subst (λ (l : Line). IsSaid race l) (ok_is is) (record {
+      caller = word_has_caller head.verb n text word head.caller said called;
+      raced = λ races. word_races has head.verb n text word said (subst (λ (r : Bool). may_stand r has head.verb ≡ true) races may);
+    })
 
 after_count : (race has : Bool) (n : ℕ) (text : List ℕ) (line : Line) (head : Head) (counted : Result (Unit {0}) ScriptError)
     → VerbHasCaller head.verb head.caller
     → (counted >>= (λ done. word_of head.verb n text
     >>= (λ word. checked (may_stand race has head.verb) NotHere n >>= (λ done. Ok (record { caller = head.caller; number = n; word = word }))))) ≡ Ok line
-    → HasCaller line.word line.caller
+    → IsSaid race line
 after_count race has n text line head (Err e) called is = absurd (no_line e line is)
 after_count race has n text line head (Ok done) called is =
-    after_word head.caller n line (word_of head.verb n text) (checked (may_stand race has head.verb) NotHere n)
-    (λ word same. word_has_caller head.verb n text word head.caller same called) is
+    after_word race has n text line head (word_of head.verb n text) (may_stand race has head.verb) refl refl called is
 
 after_head : (race has : Bool) (n : ℕ) (text : List ℕ) (line : Line) (h : Result Head ScriptError)
     → ((head : Head) → h ≡ Ok head → VerbHasCaller head.verb head.caller)
     → (h >>= (λ head. checked (length (fields text) == field_count head.verb) Count n
     >>= (λ done. word_of head.verb n text
     >>= (λ word. checked (may_stand race has head.verb) NotHere n >>= (λ done. Ok (record { caller = head.caller; number = n; word = word })))))) ≡ Ok line
-    → HasCaller line.word line.caller
+    → IsSaid race line
 after_head race has n text line (Err e) called is = absurd (no_line e line is)
 after_head race has n text line (Ok head) called is =
     after_count race has n text line head (checked (length (fields text) == field_count head.verb) Count n) (called head refl) is
@@ -171,20 +201,20 @@ after_bytes : (race has : Bool) (n : ℕ) (text : List ℕ) (line : Line) (print
     → (printable >>= (λ done. head_of n text >>= (λ head. checked (length (fields text) == field_count head.verb) Count n
     >>= (λ done. word_of head.verb n text
     >>= (λ word. checked (may_stand race has head.verb) NotHere n >>= (λ done. Ok (record { caller = head.caller; number = n; word = word }))))))) ≡ Ok line
-    → HasCaller line.word line.caller
+    → IsSaid race line
 after_bytes race has n text line (Err e) is = absurd (no_line e line is)
 after_bytes race has n text line (Ok done) is = after_head race has n text line (head_of n text) (λ head same. head_has_caller n text head same) is
 
-line_has_caller : (race has : Bool) (n : ℕ) (text : List ℕ) (line : Line) → line_of race has n text ≡ Ok line → HasCaller line.word line.caller
-line_has_caller race has n text line is = after_bytes race has n text line (checked (list_all is_printable text) Bytes n) is
+line_said : (race has : Bool) (n : ℕ) (text : List ℕ) (line : Line) → line_of race has n text ≡ Ok line → IsSaid race line
+line_said race has n text line is = after_bytes race has n text line (checked (list_all is_printable text) Bytes n) is
 
--- What the lines behind so many say has callers, and is not too much.
-pub record Says (count : ℕ) (lines : List Line) : Type 0 where
+-- What the lines behind so many say is known line by line, and is not too much.
+pub record Says (race : Bool) (count : ℕ) (lines : List Line) : Type 0 where
   pub few : count + length lines ≤ 65536
-  pub callers : All (λ (line : Line). HasCaller line.word line.caller) lines
+  pub each : All (IsSaid race) lines
 
 said_before : (race has : Bool) (n count : ℕ) (text : List ℕ) (lines : List Line) (r : Result Line ScriptError) (rest : Result (List Line) ScriptError)
-    → line_of race has n text ≡ r → ((later : List Line) → rest ≡ Ok later → Says (count + 1) later) → with_line r rest ≡ Ok lines → Says count lines
+    → line_of race has n text ≡ r → ((later : List Line) → rest ≡ Ok later → Says race (count + 1) later) → with_line r rest ≡ Ok lines → Says race count lines
 said_before race has n count text lines (Err e) rest said later is = absurd (err_ok is)
   where
     err_ok : Err e ≡ Ok lines → ⊥
@@ -195,32 +225,32 @@ said_before race has n count text lines (Ok line) (Err e) said later is = absurd
     err_ok same = cc
 said_before race has n count text lines (Ok line) (Ok rest) said later is =
     let behind = later rest refl in
-    let whole : Says count (line ∷ rest) = record {
+    let whole : Says race count (line ∷ rest) = record {
       few = let few = behind.few in omega arith;
-      callers = All-cons (λ (l : Line). HasCaller l.word l.caller) line rest (line_has_caller race has n text line said) behind.callers;
+      each = All-cons (IsSaid race) line rest (line_said race has n text line said) behind.each;
     } in
-    subst (λ (ls : List Line). Says count ls) (ok_is is) whole
+    subst (λ (ls : List Line). Says race count ls) (ok_is is) whole
 
 has_room : (count : ℕ) → nat_lt count 65536 ≡ true → count + 1 ≤ 65536
 has_room count room = grind (arith, room)
 
 -- by whether the line is skipped, and whether there is room for one more
 said_by : (race has : Bool) (n count : ℕ) (text : List ℕ) (texts : List (List ℕ)) (lines : List Line) (b c : Bool) → nat_lt count 65536 ≡ c
-    → (script_from race has (n + 1) count texts ≡ Ok lines → Says count lines)
-    → ((later : List Line) → count + 1 ≤ 65536 → script_from race (has || has_caller (line_of race has n text)) (n + 1) (count + 1) texts ≡ Ok later → Says (count + 1) later)
+    → (script_from race has (n + 1) count texts ≡ Ok lines → Says race count lines)
+    → ((later : List Line) → count + 1 ≤ 65536 → script_from race (has || has_caller (line_of race has n text)) (n + 1) (count + 1) texts ≡ Ok later → Says race (count + 1) later)
     → (if b then script_from race has (n + 1) count texts
     else if c then with_line (line_of race has n text) (script_from race (has || has_caller (line_of race has n text)) (n + 1) (count + 1) texts)
     else Err TooManyLines) ≡ Ok lines
-    → Says count lines
+    → Says race count lines
 said_by race has n count text texts lines true c room skip next is = skip is
 said_by race has n count text texts lines false true room skip next is =
     said_before race has n count text lines (line_of race has n text) (script_from race (has || has_caller (line_of race has n text)) (n + 1) (count + 1) texts) refl
     (λ later. next later (has_room count room)) is
 said_by race has n count text texts lines false false room skip next is = absurd (let no : ⊥ = cc in no)
 
-said_from : (race has : Bool) (n count : ℕ) (texts : List (List ℕ)) (lines : List Line) → count ≤ 65536 → script_from race has n count texts ≡ Ok lines → Says count lines
+said_from : (race has : Bool) (n count : ℕ) (texts : List (List ℕ)) (lines : List Line) → count ≤ 65536 → script_from race has n count texts ≡ Ok lines → Says race count lines
 said_from race has n count [] lines few is =
-    subst (λ (ls : List Line). Says count ls) (ok_is is) (record { few = omega arith; callers = All-nil (λ (l : Line). HasCaller l.word l.caller) })
+    subst (λ (ls : List Line). Says race count ls) (ok_is is) (record { few = omega arith; each = All-nil (IsSaid race) })
 said_from race has n count (text ∷ texts) lines few is =
     said_by race has n count text texts lines (is_skipped text) (nat_lt count 65536) refl
     (said_from race has (n + 1) count texts lines few)
@@ -229,4 +259,9 @@ said_from race has n count (text ∷ texts) lines few is =
 pub says_script : (race : Bool) (text : List ℕ) (lines : List Line) → script_of race text ≡ Ok lines → IsScript lines
 says_script race text lines is =
     let says = said_from race false 1 0 (lines_of text) lines (omega arith) is in
-    record { few = let few = says.few in omega arith; callers = says.callers }
+    record { few = let few = says.few in omega arith; callers = λ k other below. (says.each k other below).caller }
+
+pub says_races : (text : List ℕ) (lines : List Line) → script_of true text ≡ Ok lines → IsRaceScript lines
+says_races text lines is =
+    let says = said_from true false 1 0 (lines_of text) lines (omega arith) is in
+    record { script = says_script true text lines is; words = λ k other below. (says.each k other below).raced refl }

@@ -3,4 +3,5 @@ pub mod Grammar
 pub mod Laws
 pub mod Numbers
 pub mod Script
+pub mod Racing
 pub mod Report

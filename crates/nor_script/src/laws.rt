@@ -1,5 +1,6 @@
 //! Laws of the definitions, as theorems.
 ghost use Rattle.nor_script.specs.Laws.{LinesAreAnswered, AnswersGoOn, TextsSayScripts};
+ghost use Rattle.nor_script.specs.Racing.{TextsSayRaces};
 
 /// A line is answered by its own entries, and lines one after the other by theirs.
 pub fn scripts_are_answered_line_by_line()
@@ -7,7 +8,9 @@ pub fn scripts_are_answered_line_by_line()
     ensures lines { AnswersGoOn }
 {}
 
-/// The lines that a text says have their callers, and aren't too many.
+/// The lines that a text says have their callers, and aren't too many. Those of a text that is to be raced
+/// are lines of a race.
 pub fn texts_say_scripts()
-    ensures { TextsSayScripts }
+    ensures scripts { TextsSayScripts }
+    ensures races { TextsSayRaces }
 {}

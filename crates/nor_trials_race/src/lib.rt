@@ -5,6 +5,8 @@
 #![tactic(auto)]
 
 #[cfg(test)]
+mod erases;
+#[cfg(test)]
 mod races;
 #[cfg(test)]
 mod turns;

@@ -50,7 +50,7 @@ fn bank_of_chip(
     rt: &impl Abort,
     alloc: Global,
 ) -> Result<Bank<u16, SimBank<u16, Intel>>, AllocError>
-    ensures { IfOk result (λ bank. bank.erase ≡ None) }
+    ensures { IfOk result (λ bank. (bank.halted ≡ None) × (bank.erase ≡ None)) }
 {
     let file = file_of_chip(alloc)?;
     let Ok(Loaded::Intel16(bus)) = read_image(alloc, &file) else {
@@ -91,9 +91,24 @@ fn callers_share_a_bank(rt: HostRuntime) -> Result<(), Fail> {
     );
     assert!(rt; bytes == [0]);
     driver.fold(&mut first, second);
+    let told = driver.unlock(&rt, &mut first, 0);
+    assert!(rt;
+        told == Answer {
+            reply: Reply::NoLocks,
+            position: 2
+        }
+    );
+    let erased = driver.erase(&rt, &mut first, 0);
+    assert!(rt;
+        erased
+            == Answer {
+                reply: Reply::Erased,
+                position: 4
+            }
+    );
     let (bank, count) = driver.shut(first);
     let _bus = bank.stop();
-    assert!(rt; count == 2);
+    assert!(rt; count == 5);
     Ok(())
 }
 
@@ -212,8 +227,8 @@ struct Meeting {
     misses: AtomicU64,
 }
 
-// Waits for a number, and notes where it doesn't come.
-fn hold(word: &AtomicU64, number: u64, misses: &AtomicU64) {
+/// Waits for a number, and notes where it doesn't come.
+pub fn hold(word: &AtomicU64, number: u64, misses: &AtomicU64) {
     for _ in 0..1_000_000_000 {
         if word.load(Ordering::SeqCst) == number {
             return;

@@ -1,5 +1,5 @@
 -- From what is done on a bank to what a command does.
-use Rattle.std.proofs.Common.{◌≡◌, ◌≤◌, ◌^◌, ◌∙◌, ◌⊎◌, inl, inr, ℕ, List, [], ◌∷◌, length, refl, sym, ap, subst, Bool, true, false, Option, Some, None, Result, Err}
+use Rattle.std.proofs.Common.{◌≡◌, ◌≤◌, ◌^◌, ◌∙◌, ◌⊎◌, inl, inr, ℕ, List, [], ◌∷◌, length, refl, sym, ap, subst, Bool, Option, Some, None, Result, Err}
 use Rattle.std.specs.Result.{IsErrAnd}
 use Rattle.nor_cell.specs.Chip.{ChipState}
 use Rattle.nor_bus.specs.Bus.{BusState}
@@ -11,25 +11,24 @@ use Rattle.nor_io.specs.declared.sink.SinkError.{SinkError}
 use Rattle.nor_io.specs.declared.sink.SinkError.TheVariants.{Fault, NoMemory as NoSinkMemory}
 use Rattle.nor_io.proofs.Putting.{rose_later}
 use Rattle.nor_probe.specs.Probed.{refusal}
-use Rattle.nor_run.specs.Built.{is_built_bank}
 use Rattle.nor_run.specs.Running.{Untouched}
-use Rattle.nor_run.specs.Scripts.{FindsLocks, EndsRun, ReportsImage, RunsImage, RunsPartly}
+use Rattle.nor_run.specs.Scripts.{IsRunnable, EndsRun, ReportsImage, RunsImage, RunsPartly}
 use Rattle.nor_run.specs.declared.error.RunError.{RunError}
-use Rattle.nor_run.specs.declared.error.RunError.TheVariants.{Probe, NotBuilt as NoRun, NoMemory as NoRunMemory, Put}
+use Rattle.nor_run.specs.declared.error.RunError.TheVariants.{Probe, NoMemory as NoRunMemory, Put}
 use Rattle.nor_script.specs.Script.{script_of}
 use Rattle.norbank.specs.Does.{IsFound, Names, FailsRead, IsWant, Stops, Does, RunsWhole, RunsPart, IsCaused, Saved, fresh_bus}
 use Rattle.norbank.specs.Endings.{run_failure}
 use Rattle.norbank.specs.Opened.{IsOpened, FailsOpen, ReadEnds, ReadsBank, ShowEnds, ShowsBank, IsJob, FailsJob, IsRunWhole, RunsJob, opening_stops}
-use Rattle.norbank.specs.Stops.{file_stop, image_stop, chips_stop, text_stop, probe_stop, locks_stop, range_stop, first_some, stops_of, stop_of, chips_of_file, bytes_in}
+use Rattle.norbank.specs.Stops.{file_stop, image_stop, text_stop, probe_stop, range_stop, first_some, stops_of, stop_of, chips_of_file, bytes_in}
 use Rattle.norbank.specs.Words.{Asked, Read, Show, Script, name_of, quietly}
 use Rattle.norbank.specs.declared.jobs.Job.{Job}
 use Rattle.norbank.specs.declared.stop.Done.{Done}
 use Rattle.norbank.specs.declared.stop.File.TheVariants.{Bank, Script as ScriptFile}
 use Rattle.norbank.specs.declared.stop.Stop.{Stop}
-use Rattle.norbank.specs.declared.stop.Stop.TheVariants.{Unfound, ReadFault, NotBuilt, NoMemory, Output}
+use Rattle.norbank.specs.declared.stop.Stop.TheVariants.{Unfound, ReadFault, NoMemory, Output}
 use Rattle.norbank.proofs.FileChips.{found_any, at_file, chips_are, fresh_as}
-use Rattle.norbank.proofs.Opening.{no_memory_is, image_free, chips_free}
-use Rattle.norbank.proofs.Stopping.{stopped_by, StopsAt, AreFree, stops_at, first_at, first_none, none_first, sooner, behind_free, both_free, file_free, map_some, when_true, when_false, text_free, probe_free, offers_so}
+use Rattle.norbank.proofs.Opening.{no_memory_is, image_free}
+use Rattle.norbank.proofs.Stopping.{stopped_by, StopsAt, AreFree, stops_at, first_at, first_none, none_first, sooner, behind_free, both_free, file_free, map_some, text_free, probe_free}
 
 -- ---- a result that is this
 
@@ -198,7 +197,6 @@ module _ (race : Bool) (name script_name : List ℕ) (was : ShelfState) (job : J
       file_stop Bank (Some is.file)
       ∷ file_stop ScriptFile (Some is.text)
       ∷ image_stop is.file
-      ∷ chips_stop (chips_of_file is.file)
       ∷ text_stop (script_of race is.text)
       ∷ []
 
@@ -210,16 +208,13 @@ module _ (race : Bool) (name script_name : List ℕ) (was : ShelfState) (job : J
       file_free ScriptFile is.text is.is_text.few,
       (
         image_free is.file job.loaded is.is_bank,
-        (
-          chips_free is.file job.loaded is.is_bank is.built,
-          (text_free (script_of race is.text) job.script is.is_script is.lines, tt),
-        ),
+        (text_free (script_of race is.text) job.script is.is_script, tt),
       ),
     ),
   )
 
   abbrev back : List (Option Stop)
-  back = probe_stop (width_of is.file) (chips_of_file is.file) ∷ locks_stop (width_of is.file) (chips_of_file is.file) ∷ []
+  back = probe_stop (width_of is.file) (chips_of_file is.file) ∷ []
 
   stops_behind : (now : ShelfState) (before after : SinkState) (stop : Stop) → now.files ≡ was.files → Untouched before after → StopsAt back stop
       → Stops (Script race name script_name) was now before after stop
@@ -230,17 +225,14 @@ module _ (race : Bool) (name script_name : List ℕ) (was : ShelfState) (job : J
     silent = silent;
   }
 
-  locks_of_file : (offers : Bool) → FindsLocks width chips offers → FindsLocks (width_of is.file) (chips_of_file is.file) offers
-  locks_of_file offers has = at_file (λ w cs. FindsLocks w cs offers) is.file width chips is.is_bank.image has
+  runs_on_file : IsRunnable width chips → IsRunnable (width_of is.file) (chips_of_file is.file)
+  runs_on_file has = at_file (λ w cs. IsRunnable w cs) is.file width chips is.is_bank.image has
 
-  free : FindsLocks width chips false → stop_of (Script race name script_name) (Some is.file) (Some is.text) ≡ None
+  free : IsRunnable width chips → stop_of (Script race name script_name) (Some is.file) (Some is.text) ≡ None
   free has =
-      let there = locks_of_file false has in
+      let there = runs_on_file has in
       first_none (stops_of (Script race name script_name) (Some is.file) (Some is.text))
-      (both_free front back front_free (
-        probe_free (width_of is.file) (chips_of_file is.file) there.found there.is_found,
-        (when_false _ NotBuilt (offers_so (width_of is.file) (chips_of_file is.file) false there), tt),
-      ))
+      (both_free front back front_free (probe_free (width_of is.file) (chips_of_file is.file) there.found there.is_found, tt))
 
   same_bus : bus_of job.loaded ≡ fresh_bus (chips_of_file is.file)
   same_bus = fresh_as (bus_of job.loaded) (chips_of_file is.file) is.is_bank.fresh (chips_are is.file width chips is.is_bank.image)
@@ -249,20 +241,20 @@ module _ (race : Bool) (name script_name : List ℕ) (was : ShelfState) (job : J
   on_file : (P : ℕ → BusState → Type 0) → P width (bus_of job.loaded) → P (width_of is.file) (fresh_bus (chips_of_file is.file))
   on_file P p = subst (λ (w : ℕ). P w (fresh_bus (chips_of_file is.file))) (sym is.is_bank.image.bus) (subst (λ (b : BusState). P width b) same_bus p)
 
-  works : (now : ShelfState) (before after : SinkState) (result : Result Done Stop) → FindsLocks width chips false
+  works : (now : ShelfState) (before after : SinkState) (result : Result Done Stop) → IsRunnable width chips
       → RunsWhole race name is.file job.script was now before after result ⊎ RunsPart race is.file job.script was now before after result
       → Does (Script race name script_name) was now before after result
   works now before after result has runs = inr (record {
     names = names;
     free = free has;
-    answers = record { lines = job.script; is_script = is.is_script; locks = locks_of_file false has; runs = runs };
+    answers = record { lines = job.script; is_script = is.is_script; runnable = runs_on_file has; runs = runs };
   })
 
   -- all was run, and the bank was to be saved
   was_run : (between now : ShelfState) (before after : SinkState) (result : Result Done Stop) → between.files ≡ was.files → was.faults ≤ between.faults
       → IsRunWhole race width job.script (bus_of job.loaded) name between now before after result → Does (Script race name script_name) was now before after result
   was_run between now before after result same later whole =
-      works now before after result whole.ends.locks (inl (record {
+      works now before after result whole.ends (inl (record {
         ran = whole.ran;
         saved = whole.saved;
         runs = on_file (λ w b. RunsImage race w job.script b before after whole.ran whole.saved) whole.reports;
@@ -276,7 +268,7 @@ module _ (race : Bool) (name script_name : List ℕ) (was : ShelfState) (job : J
       by (inr (kept, inr want)) = inr (kept ∙ same, inr want)
 
   part : (now : ShelfState) (before after : SinkState) (result : Result Done Stop) (error : SinkError) (saved : List ℕ) → now.files ≡ was.files → result ≡ Err (Output error)
-      → FindsLocks width chips false → (error ≡ Fault → Rose before.faults after.faults)
+      → IsRunnable width chips → (error ≡ Fault → Rose before.faults after.faults)
       → ReportsImage race width job.script (bus_of job.loaded) before after saved (Err (Put error))
       → Does (Script race name script_name) was now before after result
   part now before after result error saved kept output has fault reports =
@@ -299,18 +291,6 @@ module _ (race : Bool) (name script_name : List ℕ) (was : ShelfState) (job : J
       does_as (Script race name script_name) was now before after result (Unfound error) stopped
       (stops_behind now before after (Unfound error) kept ends.1
       (inl (map_some Unfound (refusal (width_of is.file) (chips_of_file is.file)) error (at_file (λ w cs. refusal w cs ≡ Some error) is.file width chips is.is_bank.image ends.0.refused))))
-  was_stopped now before after result NoRun saved kept stopped ends reports = by ends.0
-    where
-      by : (is_built_bank chips ≡ false) ⊎ ((is_built_bank chips ≡ true) × FindsLocks width chips true) → Does (Script race name script_name) was now before after result
-      by (inl unbuilt) = absurd (let x = is.built in cc)
-      by (inr offers) =
-          let there = locks_of_file true offers.1 in
-          does_as (Script race name script_name) was now before after result NotBuilt stopped
-          (stops_behind now before after NotBuilt kept ends.1
-          (inr (
-            probe_free (width_of is.file) (chips_of_file is.file) there.found there.is_found,
-            inl (when_true _ NotBuilt (offers_so (width_of is.file) (chips_of_file is.file) true there)),
-          )))
   was_stopped now before after result NoRunMemory saved kept stopped ends reports =
       does_as (Script race name script_name) was now before after result NoMemory stopped (record {
         names = names;
@@ -319,9 +299,9 @@ module _ (race : Bool) (name script_name : List ℕ) (was : ShelfState) (job : J
         silent = ends.2;
       })
   was_stopped now before after result (Put Fault) saved kept stopped ends reports =
-      part now before after result Fault saved kept stopped ends.0.locks (λ _. ends.1) reports
+      part now before after result Fault saved kept stopped ends.0 (λ _. ends.1) reports
   was_stopped now before after result (Put NoSinkMemory) saved kept stopped ends reports =
-      part now before after result NoSinkMemory saved kept stopped ends.locks (λ x. absurd (let y = x in cc)) reports
+      part now before after result NoSinkMemory saved kept stopped ends (λ x. absurd (let y = x in cc)) reports
 
   pub job_does : (between now : ShelfState) (before after : SinkState) (result : Result Done Stop) → between.files ≡ was.files → was.faults ≤ between.faults
       → RunsJob race width job.script (bus_of job.loaded) name between now before after result → Does (Script race name script_name) was now before after result

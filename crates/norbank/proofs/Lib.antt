@@ -1,6 +1,7 @@
 pub mod AsAsked
 pub mod BankBytes
 pub mod Doing
+pub mod Flushing
 pub mod FileChips
 pub mod Mishaps
 pub mod Opening

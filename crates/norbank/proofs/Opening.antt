@@ -1,29 +1,28 @@
 -- Files that were loaded, and what stops a command there.
-use Rattle.std.proofs.Common.{◌≡◌, ◌≤◌, ◌∙◌, ◌⊎◌, inl, inr, ℕ, List, [], ◌∷◌, refl, sym, ap, subst, Bool, true, false, Option, Some, None, Result, Ok, Err, IfOk, IfErr}
+use Rattle.std.proofs.Common.{◌≡◌, ◌≤◌, ◌∙◌, ◌⊎◌, inl, inr, ℕ, List, [], ◌∷◌, refl, sym, ap, subst, Bool, Option, Some, None, Result, Ok, Err, IfOk, IfErr}
 use Rattle.nor_bus.specs.Driven.{AllLanes}
 use Rattle.nor_image.specs.Image.{width_of, image_refusal, IsCause}
-use Rattle.nor_image.specs.Loaded.{bus_of, loaded_width}
+use Rattle.nor_image.specs.Loaded.{bus_of}
 use Rattle.nor_image.specs.declared.error.ImageError.{ImageError}
 use Rattle.nor_image.specs.declared.loaded.Loaded.{Loaded}
 use Rattle.nor_io.specs.Files.{ShelfState, FileMap, Rose, IsAbsent, IsTooLarge}
 use Rattle.nor_io.specs.declared.shelf.LoadError.{LoadError}
 use Rattle.nor_io.specs.declared.shelf.LoadError.TheVariants.{Absent as NoFile, ReadFault as LoadFault, TooLarge as LargeFile, NoMemory as NoLoadMemory}
 use Rattle.nor_io.proofs.Putting.{rose_later}
-use Rattle.nor_run.specs.Built.{is_built_bank}
 use Rattle.nor_script.specs.Script.{Reads, script_of}
 use Rattle.nor_script.specs.declared.error.ScriptError.{ScriptError}
 use Rattle.norbank.specs.Does.{IsFound, FailsRead, IsWant}
 use Rattle.norbank.specs.Endings.{file_failure}
 use Rattle.norbank.specs.Open.{IsIdleChip}
 use Rattle.norbank.specs.Opened.{IsLoadedAs, IsBankOf, IsNoBank, IsOpened, FailsLoad, FailsOpen, FailsJob, opening_stops}
-use Rattle.norbank.specs.Stops.{file_stop, image_stop, chips_stop, text_stop, probe_stop, locks_stop, first_some, stops_of, stop_of, chips_of_file}
+use Rattle.norbank.specs.Stops.{file_stop, image_stop, text_stop, probe_stop, first_some, stops_of, stop_of, chips_of_file}
 use Rattle.norbank.specs.Words.{Asked, Script}
 use Rattle.norbank.specs.declared.stop.File.{File}
 use Rattle.norbank.specs.declared.stop.File.TheVariants.{Bank, Script as ScriptFile}
 use Rattle.norbank.specs.declared.stop.Stop.{Stop}
-use Rattle.norbank.specs.declared.stop.Stop.TheVariants.{BadImage, BadScript, Absent, TooLarge, ReadFault, NotBuilt, NoMemory}
-use Rattle.norbank.proofs.FileChips.{found_none, found_any, found_large, chips_are}
-use Rattle.norbank.proofs.Stopping.{StopsAt, stops_at, file_free, file_large, image_cause, script_cause, map_none, when_true, when_false, not_true, not_false}
+use Rattle.norbank.specs.declared.stop.Stop.TheVariants.{BadImage, BadScript, Absent, TooLarge, ReadFault, NoMemory}
+use Rattle.norbank.proofs.FileChips.{found_none, found_any, found_large}
+use Rattle.norbank.proofs.Stopping.{StopsAt, stops_at, file_free, file_large, image_cause, script_cause, map_none}
 
 -- ---- loading
 
@@ -94,15 +93,6 @@ unopened_by name file was now (Err stop) is none = refused_open name file was no
 pub image_free : (file : List ℕ) (loaded : Loaded) → IsBankOf file loaded → image_stop file ≡ None
 image_free file loaded is = map_none BadImage (image_refusal file) is.image.well_formed
 
-same_built : (file : List ℕ) (loaded : Loaded) → IsBankOf file loaded → is_built_bank (chips_of_file file) ≡ is_built_bank (bus_of loaded).lanes
-same_built file loaded is = ap is_built_bank (sym (chips_are file (loaded_width loaded) (bus_of loaded).lanes is.image))
-
-pub chips_free : (file : List ℕ) (loaded : Loaded) → IsBankOf file loaded → is_built_bank (bus_of loaded).lanes ≡ true → chips_stop (chips_of_file file) ≡ None
-chips_free file loaded is built = when_false _ NotBuilt (not_true _ (same_built file loaded is ∙ built))
-
-pub chips_weak : (file : List ℕ) (loaded : Loaded) → IsBankOf file loaded → is_built_bank (bus_of loaded).lanes ≡ false → chips_stop (chips_of_file file) ≡ Some NotBuilt
-chips_weak file loaded is unbuilt = when_true _ NotBuilt (not_false _ (same_built file loaded is ∙ unbuilt))
-
 -- the same files
 pub loaded_as : (told other : Option FileMap) (name file : List ℕ) → told ≡ other → IsLoadedAs told name file → IsLoadedAs other name file
 loaded_as told other name file same is = subst (λ (t : Option FileMap). IsLoadedAs t name file) same is
@@ -150,7 +140,7 @@ module _ (race : Bool) (name script_name : List ℕ) where
     both cause = by_names was now stop (Some file) (Some text) loaded.is_found there.is_found cause
 
     -- behind the files
-    pub behind : StopsAt (image_stop file ∷ chips_stop (chips_of_file file) ∷ text_stop (script_of race text) ∷ probe_stop (width_of file) (chips_of_file file) ∷ locks_stop (width_of file) (chips_of_file file) ∷ []) stop
+    pub behind : StopsAt (image_stop file ∷ text_stop (script_of race text) ∷ probe_stop (width_of file) (chips_of_file file) ∷ []) stop
         → stop_of (Script race name script_name) (Some file) (Some text) ≡ Some stop
     behind so = at (Some file) (Some text) stop (inr (file_free Bank file loaded.few, inr (file_free ScriptFile text there.few, so)))
 
@@ -158,21 +148,11 @@ module _ (race : Bool) (name script_name : List ℕ) where
     no_bank (inl refused) = both (inl (behind (inl refused)))
     no_bank (inr want) = both (inr (inr (want (Script race name script_name))))
 
-    pub weak_bank : stop ≡ NotBuilt → image_stop file ≡ None → chips_stop (chips_of_file file) ≡ Some NotBuilt → FailsJob race name script_name was now stop
-    weak_bank is image chips = both (inl (behind (inr (image, inl (chips ∙ ap (λ (s : Stop). Some s) (sym is))))))
-
-    pub no_script : (e : ScriptError) → stop ≡ BadScript e → image_stop file ≡ None → chips_stop (chips_of_file file) ≡ None → Reads (script_of race text) (Err e)
+    pub no_script : (e : ScriptError) → stop ≡ BadScript e → image_stop file ≡ None → Reads (script_of race text) (Err e)
         → FailsJob race name script_name was now stop
-    no_script e is image chips reads = both (by (script_cause (script_of race text) e reads))
+    no_script e is image reads = both (by (script_cause (script_of race text) e reads))
       where
         by : (text_stop (script_of race text) ≡ Some (BadScript e)) ⊎ ((c : Asked) → IsWant c (BadScript e))
             → (stop_of (Script race name script_name) (Some file) (Some text) ≡ Some stop) ⊎ (FailsRead (Some file) was now stop ⊎ IsWant (Script race name script_name) stop)
-        by (inl bad) = inl (behind (inr (image, inr (chips, inl (bad ∙ ap (λ (s : Stop). Some s) (sym is))))))
+        by (inl bad) = inl (behind (inr (image, inl (bad ∙ ap (λ (s : Stop). Some s) (sym is)))))
         by (inr want) = inr (inr (want_of (Script race name script_name) stop (BadScript e) is (want (Script race name script_name))))
-
-    pub unbuilt_lines : stop ≡ NotBuilt → image_stop file ≡ None → chips_stop (chips_of_file file) ≡ None → text_stop (script_of race text) ≡ Some NotBuilt
-        → FailsJob race name script_name was now stop
-    unbuilt_lines is image chips lines = both (inl (behind (inr (image, inr (chips, inl (lines ∙ ap (λ (s : Stop). Some s) (sym is)))))))
-
-    pub no_room : stop ≡ NoMemory → FailsJob race name script_name was now stop
-    no_room is = both (inr (inr (no_memory_is (Script race name script_name) stop is)))

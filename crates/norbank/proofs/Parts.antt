@@ -8,7 +8,7 @@ use Rattle.nor_io.specs.declared.sink.SinkError.{SinkError}
 use Rattle.nor_io.proofs.Pieces.{AppendsPart-whole}
 use Rattle.nor_run.specs.Running.{IsCount, counters_of}
 use Rattle.nor_run.specs.Scripts.{IsRunOf}
-use Rattle.nor_run.proofs.Reporting.{part_text}
+use Rattle.nor_run.proofs.Taking.{part_put}
 use Rattle.nor_script.specs.Report.{report_text}
 use Rattle.nor_script.specs.declared.line.Line.{Line}
 use Rattle.norbank.specs.Does.{Names, Does, Prints, RunsWhole, RunsPart, RunsScript, Answers, bus_in, of_put}
@@ -26,7 +26,7 @@ use Rattle.norbank.proofs.Statuses.{done_run, not_either}
 put_part : (text : List ℕ) (before after : SinkState) (put : Result (Unit {0}) SinkError) (stop : Stop) → PutsText text before after put → Err stop ≡ of_put put
     → AppendsPart before.taken text after.taken
 put_part text before after (Ok done) stop puts is = absurd (let x = is in cc)
-put_part text before after (Err error) stop puts is = part_text text before after error puts
+put_part text before after (Err error) stop puts is = part_put text before after error puts
 
 prints_part : (text : List ℕ) (was now : ShelfState) (before after : SinkState) (stop : Stop) → Prints text was now before after (Err stop)
     → AppendsPart before.taken text after.taken

@@ -1,5 +1,5 @@
 -- The statuses of what stops a command.
-use Rattle.std.proofs.Common.{◌≡◌, ◌≢◌, ◌<◌, ◌+◌, ◌^◌, ◌∙◌, inl, inr, ℕ, List, [], ◌∷◌, length, ap, arith, Bool, true, false, not, nat_lt, Option, Some, None, Result, Ok, Err}
+use Rattle.std.proofs.Common.{◌≡◌, ◌≢◌, ◌<◌, ◌+◌, ◌^◌, ◌∙◌, inl, inr, ℕ, List, [], ◌∷◌, length, ap, arith, Bool, true, false, nat_lt, Option, Some, None, Result, Ok, Err}
 use Rattle.std.specs.Option.{option_map}
 use Rattle.nor_cell.specs.Chip.{ChipState}
 use Rattle.nor_bus.specs.Bus.{bank_size}
@@ -9,14 +9,13 @@ use Rattle.nor_image.specs.declared.error.ImageError.TheVariants.{BadMagic, BadH
 use Rattle.nor_io.specs.declared.sink.SinkError.TheVariants.{Fault, NoMemory as NoSinkMemory}
 use Rattle.nor_probe.specs.Probed.{refusal}
 use Rattle.nor_probe.specs.declared.error.ProbeError.{ProbeError}
-use Rattle.nor_run.specs.Built.{are_built, is_built_bank}
 use Rattle.nor_script.specs.Script.{script_of}
 use Rattle.nor_script.specs.declared.error.ScriptError.{ScriptError}
 use Rattle.nor_script.specs.declared.error.ScriptError.TheVariants.{BadLine, BadCaller, TooManyLines, NoMemory as NoScriptMemory}
 use Rattle.nor_script.specs.declared.line.Line.{Line}
 use Rattle.norbank.specs.Done.{IsRun}
 use Rattle.norbank.specs.Endings.{status_of, done_status}
-use Rattle.norbank.specs.Stops.{when, file_stop, image_stop, text_stop, probe_stop, first_some, stops_of, chips_of_file, bytes_in, offers_locks}
+use Rattle.norbank.specs.Stops.{when, file_stop, image_stop, text_stop, probe_stop, first_some, stops_of, chips_of_file, bytes_in}
 use Rattle.norbank.specs.Words.{Asked, Read, Show, Script, Drill, Unknown}
 use Rattle.norbank.specs.declared.stop.Done.{Done}
 use Rattle.norbank.specs.declared.stop.Done.TheVariants.{All, Halted}
@@ -109,7 +108,7 @@ bad_script_plain TooManyLines is = omega arith
 bad_script_plain NoScriptMemory is = omega arith
 
 text_plain : (r : Result (List Line) ScriptError) → IsPlain (text_stop r)
-text_plain (Ok lines) = when_plain (not (are_built lines)) NotBuilt (λ x. omega arith)
+text_plain (Ok lines) = none_plain
 text_plain (Err e) = one_plain (BadScript e) (bad_script_plain e)
 
 probe_plain : (width : ℕ) (chips : List ChipState) → IsPlain (probe_stop width chips)
@@ -144,14 +143,8 @@ all_plain (Script race name script_name) bank script = (
     (
       image_plain (bytes_in bank),
       (
-        when_plain (not (is_built_bank (chips_of_file (bytes_in bank)))) NotBuilt (λ x. omega arith),
-        (
-          text_plain (script_of race (bytes_in script)),
-          (
-            probe_plain (width_of (bytes_in bank)) (chips_of_file (bytes_in bank)),
-            (when_plain (offers_locks (width_of (bytes_in bank)) (chips_of_file (bytes_in bank))) NotBuilt (λ x. omega arith), tt),
-          ),
-        ),
+        text_plain (script_of race (bytes_in script)),
+        (probe_plain (width_of (bytes_in bank)) (chips_of_file (bytes_in bank)), tt),
       ),
     ),
   ),

@@ -1,5 +1,5 @@
 -- The first stop in the order of work.
-use Rattle.std.proofs.Common.{◌≡◌, ◌<◌, ◌≤◌, ◌^◌, ◌∙◌, ◌⊎◌, inl, inr, ℕ, List, [], ◌∷◌, ◌++◌, length, refl, sym, ap, Bool, true, false, not, nat_lt, Option, Some, None, Result, Ok, Err}
+use Rattle.std.proofs.Common.{◌≡◌, ◌<◌, ◌≤◌, ◌^◌, ◌∙◌, ◌⊎◌, inl, inr, ℕ, List, [], ◌∷◌, ◌++◌, length, refl, ap, Bool, true, false, nat_lt, Option, Some, None, Result, Ok, Err}
 use Rattle.std.specs.Option.{option_or, option_map}
 use Rattle.std.specs.Result.{IsErrAnd}
 use Rattle.std.proofs.lemmas.Result.{err_from_is_err_and}
@@ -10,28 +10,24 @@ use Rattle.nor_image.specs.Image.{image_refusal, IsCause}
 use Rattle.nor_image.specs.declared.error.ImageError.{ImageError}
 use Rattle.nor_image.specs.declared.error.ImageError.TheVariants.{BadMagic, BadHeader, Truncated, Trailing, SizeDiffers, NoMemory as NoImageMemory}
 use Rattle.nor_query.specs.Checks.{first_error}
-use Rattle.nor_query.specs.Derived.{locks_of}
 use Rattle.nor_query.specs.declared.error.QueryError.{QueryError}
-use Rattle.nor_query.specs.declared.query.Extended.{Extended}
 use Rattle.nor_probe.specs.Found.{found_geometry}
 use Rattle.nor_probe.specs.Probed.{refusal, refusal_in, IsFoundOn}
 use Rattle.nor_probe.specs.Tables.{table_read, first_difference}
 use Rattle.nor_probe.specs.declared.error.ProbeError.{ProbeError}
 use Rattle.nor_probe.specs.declared.error.ProbeError.TheVariants.{Query}
 use Rattle.nor_probe.specs.declared.probing.Found.{Found}
-use Rattle.nor_run.specs.Built.{are_built}
-use Rattle.nor_run.specs.Scripts.{FindsLocks}
 use Rattle.nor_script.specs.Script.{Reads}
 use Rattle.nor_script.specs.declared.error.ScriptError.{ScriptError}
 use Rattle.nor_script.specs.declared.error.ScriptError.TheVariants.{BadLine, BadCaller, TooManyLines, NoMemory as NoScriptMemory}
 use Rattle.nor_script.specs.declared.line.Line.{Line}
 use Rattle.norbank.specs.Does.{IsWant}
-use Rattle.norbank.specs.Stops.{when, file_stop, image_stop, text_stop, probe_stop, locks_in, offers_locks, first_some}
+use Rattle.norbank.specs.Stops.{when, file_stop, image_stop, text_stop, probe_stop, first_some}
 use Rattle.norbank.specs.Words.{Asked}
 use Rattle.norbank.specs.declared.stop.Done.{Done}
 use Rattle.norbank.specs.declared.stop.File.{File}
 use Rattle.norbank.specs.declared.stop.Stop.{Stop}
-use Rattle.norbank.specs.declared.stop.Stop.TheVariants.{BadImage, BadScript, Unfound, TooLarge, NotBuilt}
+use Rattle.norbank.specs.declared.stop.Stop.TheVariants.{BadImage, BadScript, Unfound, TooLarge}
 
 -- ---- the error that was given
 
@@ -99,12 +95,6 @@ pub when_none : (b : Bool) (stop : Stop) → when b stop ≡ None → b ≡ fals
 when_none true stop is = absurd (let x = is in cc)
 when_none false stop is = refl
 
-pub not_true : (b : Bool) → b ≡ true → not b ≡ false
-not_true b is = ap not is
-
-pub not_false : (b : Bool) → b ≡ false → not b ≡ true
-not_false b is = ap not is
-
 pub map_none : {E : Type 0} (f : E → Stop) (o : Option E) → o ≡ None → option_map f o ≡ None
 map_none f o is = ap (λ x. option_map f x) is
 
@@ -121,12 +111,8 @@ file_free which bytes few = when_false (nat_lt (2 ^ 30) (length bytes)) (TooLarg
 pub file_large : (which : File) (bytes : List ℕ) → 2 ^ 30 < length bytes → file_stop which (Some bytes) ≡ Some (TooLarge which)
 file_large which bytes many = when_true (nat_lt (2 ^ 30) (length bytes)) (TooLarge which) (passes_below (2 ^ 30) (length bytes) many)
 
--- the lines of a script are built
-pub text_free : (r : Result (List Line) ScriptError) (lines : List Line) → r ≡ Ok lines → are_built lines ≡ true → text_stop r ≡ None
-text_free r lines is built = ap (λ (x : Result (List Line) ScriptError). text_stop x) is ∙ when_false (not (are_built lines)) NotBuilt (not_true (are_built lines) built)
-
-pub lines_stop : (r : Result (List Line) ScriptError) (lines : List Line) → r ≡ Ok lines → are_built lines ≡ false → text_stop r ≡ Some NotBuilt
-lines_stop r lines is unbuilt = ap (λ (x : Result (List Line) ScriptError). text_stop x) is ∙ when_true (not (are_built lines)) NotBuilt (not_false (are_built lines) unbuilt)
+pub text_free : (r : Result (List Line) ScriptError) (lines : List Line) → r ≡ Ok lines → text_stop r ≡ None
+text_free r lines is = ap text_stop is
 
 -- ---- why an image or a script is refused
 
@@ -139,7 +125,7 @@ image_cause file (SizeDiffers l) cause = inl (map_some BadImage (image_refusal f
 image_cause file NoImageMemory cause = inr (λ command. record { status = refl; text = refl })
 
 text_bad : (r : Result (List Line) ScriptError) (e : ScriptError) → r ≡ Err e → text_stop r ≡ Some (BadScript e)
-text_bad r e is = ap (λ (x : Result (List Line) ScriptError). text_stop x) is
+text_bad r e is = ap text_stop is
 
 pub script_cause : (r : Result (List Line) ScriptError) (e : ScriptError) → Reads r (Err e) → (text_stop r ≡ Some (BadScript e)) ⊎ ((command : Asked) → IsWant command (BadScript e))
 script_cause r (BadLine line kind) reads = inl (text_bad r (BadLine line kind) (reads (λ x. cc)))
@@ -165,9 +151,3 @@ accepted_of width chips found is =
 
 pub probe_free : (width : ℕ) (chips : List ChipState) (found : Found) → IsFoundOn width chips found → probe_stop width chips ≡ None
 probe_free width chips found is = map_none Unfound (refusal width chips) (accepted_of width chips found is)
-
--- whether its table offers locks
-pub offers_so : (width : ℕ) (chips : List ChipState) (offers : Bool) → FindsLocks width chips offers → offers_locks width chips ≡ offers
-offers_so width chips offers has =
-    ap (λ (g : Option Geometry). locks_in g chips) has.is_found.wiring
-    ∙ (ap (λ (e : Extended). locks_of e) (sym has.is_found.says.stands.extended) ∙ has.locks)

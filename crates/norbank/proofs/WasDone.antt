@@ -81,10 +81,10 @@ ran_by race name script_name was now before after status done (Some file) (Some 
       text = text;
       is_text = is_text;
       free = none;
-      accepted = accepted_by file free.1.1.0 free.1.1.1.1.1.0;
+      accepted = accepted_by file free.1.1.0 free.1.1.1.1.0;
       lines = runs.lines;
       is_script = runs.is_script;
-      locks = runs.locks;
+      runnable = runs.runnable;
       ran = whole.ran;
       saved = whole.saved;
       code = code ∙ (let same : done ≡ done_of whole.ran.halted = let x = saves.0 in cc in ap done_status same);

@@ -1,6 +1,6 @@
 -- What a command does before its last text, and with what it ends: what was done, or what stopped
 -- it.
-use Rattle.std.specs.Prelude.{◌≡◌, ◌≤◌, ◌⊎◌, ℕ, List, Bool, true, false, Option, Some, None, Result, Ok, Err}
+use Rattle.std.specs.Prelude.{◌≡◌, ◌≤◌, ◌⊎◌, ℕ, List, Bool, true, Option, Some, None, Result, Ok, Err}
 use Rattle.nor_cell.specs.Chip.{ChipState}
 use Rattle.nor_bus.specs.Bus.{BusState, bank_bytes}
 use Rattle.nor_bus.specs.Driven.{AllLanes}
@@ -13,7 +13,7 @@ use Rattle.nor_probe.specs.Probed.{IsFoundOn}
 use Rattle.nor_probe.specs.declared.probing.Found.{Found}
 use Rattle.nor_run.specs.Causes.{MayHalt}
 use Rattle.nor_run.specs.Running.{Untouched}
-use Rattle.nor_run.specs.Scripts.{FindsLocks, RunsImage, RunsPartly, HasLetters}
+use Rattle.nor_run.specs.Scripts.{IsRunnable, RunsImage, RunsPartly, HasLetters}
 use Rattle.nor_run.specs.declared.lines.Ran.{Ran}
 use Rattle.nor_script.specs.Script.{script_of}
 use Rattle.nor_script.specs.declared.line.Line.{Line}
@@ -128,12 +128,12 @@ pub record RunsPart (race : Bool) (file : List ℕ) (lines : List Line) (was now
   pub fault : error ≡ Fault → Rose before.faults after.faults
   pub kept : now.files ≡ was.files
 
--- The lines of a text were run on the bank of a file, which was found to offer no locks.
+-- The lines of a text were run on the bank of a file, which probing accepts.
 pub record RunsScript (race : Bool) (name file text : List ℕ) (was now : ShelfState)
     (before after : SinkState) (result : Result Done Stop) : Type 0 where
   pub lines : List Line
   pub is_script : script_of race text ≡ Ok lines
-  pub locks : FindsLocks (width_of file) (chips_of_file file) false
+  pub runnable : IsRunnable (width_of file) (chips_of_file file)
   pub runs : RunsWhole race name file lines was now before after result
       ⊎ RunsPart race file lines was now before after result
 

@@ -1,5 +1,5 @@
 -- What a command that was done has printed and saved.
-use Rattle.std.specs.Prelude.{◌≡◌, ◌≤◌, ◌+◌, ◌⊎◌, ℕ, List, Bool, false, Option, Some, None, Ok}
+use Rattle.std.specs.Prelude.{◌≡◌, ◌≤◌, ◌+◌, ◌⊎◌, ℕ, List, Bool, Option, Some, None, Ok}
 use Rattle.nor_bus.specs.Bus.{bank_bytes, bank_size}
 use Rattle.nor_bus.specs.Driven.{AllLanes}
 use Rattle.nor_image.specs.Image.{image_refusal, device_of, width_of}
@@ -7,7 +7,7 @@ use Rattle.nor_io.specs.Files.{ShelfState, SinkState, FileMap, Appends, Saves}
 use Rattle.nor_probe.specs.Probed.{refusal, IsFoundOn}
 use Rattle.nor_probe.specs.declared.probing.Found.{Found}
 use Rattle.nor_run.specs.Causes.{MayHalt}
-use Rattle.nor_run.specs.Scripts.{FindsLocks, RunsImage, HasLetters}
+use Rattle.nor_run.specs.Scripts.{IsRunnable, RunsImage, HasLetters}
 use Rattle.nor_run.specs.declared.lines.Ran.{Ran}
 use Rattle.nor_script.specs.Script.{script_of}
 use Rattle.nor_script.specs.declared.line.Line.{Line}
@@ -45,8 +45,8 @@ pub record ShowsImage (told : Option FileMap) (name : List ℕ) (before after : 
 -- The script under one name was run on the bank of the file under the other, in which nothing is
 -- wrong. The sink has taken the report of entries that answer the script, and the bank was saved
 -- under its name. Where the bank's tables begin with `QRY`, the entries are a legal history from
--- the opening array, the bank stands for the array after it, whose bytes its cells are, and it
--- halted only by what may halt it.
+-- the opening array, the bank stands for the array after it, whose bytes its cells are outside what
+-- is under erase, and it halted only by what may halt it.
 pub record RanImage (race : Bool) (name script_name : List ℕ) (was now : ShelfState)
     (before after : SinkState) (status : ℕ) : Type 0 where
   pub file : List ℕ
@@ -57,7 +57,7 @@ pub record RanImage (race : Bool) (name script_name : List ℕ) (was now : Shelf
   pub accepted : IsAccepted file
   pub lines : List Line
   pub is_script : script_of race text ≡ Ok lines
-  pub locks : FindsLocks (width_of file) (chips_of_file file) false
+  pub runnable : IsRunnable (width_of file) (chips_of_file file)
   pub ran : Ran
   pub saved : List ℕ
   pub code : status ≡ done_status (done_of ran.halted)

@@ -8,7 +8,7 @@ use Rattle.nor_io.specs.declared.shelf.SaveError.{SaveError}
 use Rattle.nor_io.specs.declared.shelf.SaveError.TheVariants.{WriteFault as SaveFault, NoMemory as NoSaveMemory}
 use Rattle.nor_io.specs.declared.sink.SinkError.TheVariants.{Fault, NoMemory as NoSinkMemory}
 use Rattle.nor_run.specs.declared.error.RunError.{RunError}
-use Rattle.nor_run.specs.declared.error.RunError.TheVariants.{Probe, NotBuilt as NoRun, NoMemory as NoRunMemory, Put}
+use Rattle.nor_run.specs.declared.error.RunError.TheVariants.{Probe, NoMemory as NoRunMemory, Put}
 use Rattle.nor_script.specs.declared.error.ScriptError.TheVariants.{NoMemory as NoScriptMemory}
 use Rattle.norbank.specs.Text.{usage, not_built, no_memory, out_of_range, absent, read_fault, write_fault, too_large, image_text, script_text, probe_text}
 use Rattle.norbank.specs.Words.{Asked, name_of}
@@ -87,7 +87,6 @@ save_failure NoSaveMemory = NoMemory
 
 abbrev pub run_failure : RunError → Stop
 run_failure (Probe error) = Unfound error
-run_failure NoRun = NotBuilt
 run_failure NoRunMemory = NoMemory
 run_failure (Put error) = Output error
 

@@ -12,11 +12,11 @@ use Rattle.nor_io.specs.Puts.{PutsText}
 use Rattle.nor_io.specs.declared.sink.SinkError.{SinkError}
 use Rattle.nor_probe.specs.Probed.{IsFoundOn}
 use Rattle.nor_probe.specs.declared.probing.Found.{Found}
-use Rattle.nor_run.specs.Built.{are_built, is_built_bank}
 use Rattle.nor_run.specs.Running.{Untouched}
 use Rattle.nor_run.specs.Scripts.{IsLoaded, HasRoom, EndsRun, ReportsImage}
 use Rattle.nor_run.specs.declared.error.RunError.{RunError}
 use Rattle.nor_run.specs.declared.lines.Ran.{Ran}
+use Rattle.nor_script.specs.Racing.{IsRaceScript}
 use Rattle.nor_script.specs.Script.{IsScript, script_of}
 use Rattle.nor_script.specs.declared.line.Line.{Line}
 use Rattle.norbank.specs.Does.{IsFound, Names, FailsRead, IsWant, IsCaused, Saved, of_put, found_lines}
@@ -124,9 +124,8 @@ pub record ShowsBank (width : ℕ) (chips : List ChipState) (before after : Sink
 
 -- ---- the bank and the script that a run or a race begins with
 
--- The bank was just loaded from the file under one name, there is room for its file, running is
--- built for it and for the lines of the script, and those are what the text under the other name
--- says.
+-- The bank was just loaded from the file under one name, there is room for its file, and the lines
+-- of the script are what the text under the other name says; those of a race may be raced.
 pub record IsJob (race : Bool) (told : Option FileMap) (name script_name : List ℕ) (job : Job)
     : Type 0 where
   pub file : List ℕ
@@ -134,12 +133,11 @@ pub record IsJob (race : Bool) (told : Option FileMap) (name script_name : List 
   pub text : List ℕ
   pub is_text : IsLoadedAs told script_name text
   pub is_bank : IsBankOf file job.loaded
-  pub built : is_built_bank (bus_of job.loaded).lanes ≡ true
   pub is_script : script_of race text ≡ Ok job.script
-  pub lines : are_built job.script ≡ true
   pub loaded : IsLoaded job.loaded
   pub room : HasRoom job.file.items job.loaded
   pub script : IsScript job.script
+  pub raced : race ≡ true → IsRaceScript job.script
 
 -- No run or race begins.
 pub record FailsJob (race : Bool) (name script_name : List ℕ) (was now : ShelfState) (stop : Stop)

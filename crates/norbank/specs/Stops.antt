@@ -1,18 +1,11 @@
 -- What stops a command, in the order of its work, by its words and the bytes of the files that they
 -- name.
-use Rattle.std.specs.Prelude.{◌^◌, ◌+◌, ℕ, List, [], ◌∷◌, ◌++◌, zero, suc, length, Bool, false, not, if◌then◌else◌, nat_lt, Option, Some, None, Result, Ok, Err}
+use Rattle.std.specs.Prelude.{◌^◌, ◌+◌, ℕ, List, [], ◌∷◌, ◌++◌, zero, suc, length, Bool, if◌then◌else◌, nat_lt, Option, Some, None, Result, Ok, Err}
 use Rattle.std.specs.Option.{option_map}
 use Rattle.nor_cell.specs.Chip.{ChipState}
-use Rattle.nor_cell.specs.Table.{set_of}
-use Rattle.nor_cell.specs.declared.geometry.Geometry.{Geometry}
 use Rattle.nor_bus.specs.Bus.{bank_size}
-use Rattle.nor_query.specs.Derived.{locks_of}
-use Rattle.nor_query.specs.Fields.{extended_of}
-use Rattle.nor_probe.specs.Found.{found_geometry}
 use Rattle.nor_probe.specs.Probed.{refusal}
-use Rattle.nor_probe.specs.Tables.{table_read}
 use Rattle.nor_image.specs.Image.{image_refusal, width_of, lanes_of_file, chip_of_lane}
-use Rattle.nor_run.specs.Built.{are_built, is_built_bank}
 use Rattle.nor_script.specs.Script.{script_of}
 use Rattle.nor_script.specs.declared.error.ScriptError.{ScriptError}
 use Rattle.nor_script.specs.declared.line.Line.{Line}
@@ -32,18 +25,6 @@ chips_before file (suc n) = chips_before file n ++ chip_of_lane file n ∷ []
 abbrev pub chips_of_file : List ℕ → List ChipState
 chips_of_file file = chips_before file (lanes_of_file file)
 
--- a query table offers locks
-abbrev pub table_locks : List ℕ → Bool
-table_locks table = locks_of (extended_of (set_of table) table)
-
-abbrev pub locks_in : Option Geometry → List ChipState → Bool
-locks_in None chips = false
-locks_in (Some g) chips = table_locks (table_read g chips 0)
-
--- what a bank of these chips answers with offers locks
-abbrev pub offers_locks : ℕ → List ChipState → Bool
-offers_locks width chips = locks_in (found_geometry width chips) chips
-
 -- ---- each thing that may stop a command
 
 abbrev pub when : Bool → Stop → Option Stop
@@ -57,20 +38,13 @@ file_stop which (Some bytes) = when (nat_lt (2 ^ 30) (length bytes)) (TooLarge w
 abbrev pub image_stop : List ℕ → Option Stop
 image_stop file = option_map BadImage (image_refusal file)
 
--- weak places, or a stuck lane
-abbrev pub chips_stop : List ChipState → Option Stop
-chips_stop chips = when (not (is_built_bank chips)) NotBuilt
-
 -- by what a text says
 abbrev pub text_stop : Result (List Line) ScriptError → Option Stop
-text_stop (Ok lines) = when (not (are_built lines)) NotBuilt
+text_stop (Ok lines) = None
 text_stop (Err error) = Some (BadScript error)
 
 abbrev pub probe_stop : ℕ → List ChipState → Option Stop
 probe_stop width chips = option_map Unfound (refusal width chips)
-
-abbrev pub locks_stop : ℕ → List ChipState → Option Stop
-locks_stop width chips = when (offers_locks width chips) NotBuilt
 
 abbrev pub range_stop : List ChipState → ℕ → ℕ → Option Stop
 range_stop chips at len = when (nat_lt (bank_size chips) (at + len)) OutOfRange
@@ -105,10 +79,8 @@ stops_of (Script race image name) bank script =
     file_stop Bank bank
     ∷ file_stop ScriptFile script
     ∷ image_stop (bytes_in bank)
-    ∷ chips_stop (chips_of_file (bytes_in bank))
     ∷ text_stop (script_of race (bytes_in script))
     ∷ probe_stop (width_of (bytes_in bank)) (chips_of_file (bytes_in bank))
-    ∷ locks_stop (width_of (bytes_in bank)) (chips_of_file (bytes_in bank))
     ∷ []
 stops_of Drill bank script = Some NotBuilt ∷ []
 stops_of Unknown bank script = Some Usage ∷ []

@@ -6,7 +6,6 @@ use crate::open::{bank_of, load};
 use crate::stop::{File, Stop};
 use nor_image::{Loaded, write_image};
 use nor_io::Shelf;
-use nor_run::{are_built, is_built};
 use nor_script::{Script, parse_script};
 use std::alloc::Global;
 
@@ -37,13 +36,7 @@ pub fn job_of<H: Shelf>(
     let file = load(alloc, File::Bank, image, shelf)?;
     let text = load(alloc, File::Script, script, shelf)?;
     let loaded = bank_of(alloc, file)?;
-    if !is_built(&loaded) {
-        return Err(Stop::NotBuilt);
-    }
     let script = parse_script(alloc, &text, race)?;
-    if !are_built(script.lines()) {
-        return Err(Stop::NotBuilt);
-    }
     let file = write_image(alloc, &loaded)?;
     Ok(Job {
         file,

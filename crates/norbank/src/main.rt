@@ -11,6 +11,7 @@
 //! nor_bank for the bank, on nor_script, nor_run and nor_race for scripts, and on nor_io for files and output.
 #![tactic(auto)]
 
+mod emptying;
 mod jobs;
 mod open;
 mod printing;
@@ -25,6 +26,7 @@ mod telling;
 mod tests;
 mod words;
 
+use nor_buffer::Buffered;
 use nor_io::{FsShelf, StdSink};
 use nor_race::OpenGate;
 use std::io::ErrorKind;
@@ -43,10 +45,13 @@ fn words_of(rt: &HostRuntime) -> io::Result<Vec<String>> {
 fn main(rt: HostRuntime) -> ExitCode {
     let alloc = rt.alloc();
     let mut shelf = FsShelf::new(&rt);
-    let mut out = StdSink::new(io::writer(&rt));
+    let mut out = Buffered::new(StdSink::new(io::writer(&rt)));
     let status = match words_of(&rt) {
         Ok(words) => program::norbank(&rt, alloc, &words, &mut shelf, &mut out, &OpenGate),
-        Err(error) if error.kind() == ErrorKind::OutOfMemory => { telling::say_no_memory(&mut out) }
+        Err(error) if error.kind() == ErrorKind::OutOfMemory => {
+            let status = telling::say_no_memory(&mut out);
+            emptying::said(status, &mut out)
+        }
         // A word that isn't UTF-8 matches no form.
         Err(_) => program::norbank(&rt, alloc, &[], &mut shelf, &mut out, &OpenGate),
     };

@@ -1,8 +1,9 @@
 //! The top call.
-ghost use Rattle.std.specs.Prelude.{◌≡◌, ◌≤◌, List, ℕ, true};
+ghost use Rattle.std.specs.Prelude.{◌≡◌, ◌≢◌, ◌≤◌, List, ℕ, true, IsOk};
 ghost use Rattle.norbank.specs.AsAsked.{EndsAsAsked};
 ghost use Rattle.norbank.specs.Does.{Does};
 ghost use Rattle.norbank.specs.Done.{RanImage, IsRun};
+ghost use Rattle.norbank.specs.Endings.{fault_told, lacks_memory};
 ghost use Rattle.norbank.specs.Words.{Script as ScriptAsked, asked, asked_by};
 
 use crate::quiet::obey;
@@ -10,14 +11,15 @@ use crate::run::race;
 use crate::stop::{Done, Stop};
 use crate::telling::{Status, tell};
 use crate::words::{Command, command_of};
-use nor_io::{Shelf, Sink};
+use nor_buffer::Output;
+use nor_io::Shelf;
 use nor_race::Gate;
 use std::alloc::Global;
 use std::sync::Wait;
 use std::thread::Threads;
 
 // Does what a command asks for, which may be a race.
-fn obey_all<R: Threads + Wait + Sync, H: Shelf, K: Sink, G: Gate + Sync>(
+fn obey_all<R: Threads + Wait + Sync, H: Shelf, K: Output, G: Gate + Sync>(
     rt: &R,
     alloc: Global,
     command: Command,
@@ -27,6 +29,7 @@ fn obey_all<R: Threads + Wait + Sync, H: Shelf, K: Sink, G: Gate + Sync>(
 ) -> Result<Done, Stop>
     ensures does { Does (asked_by command.entry) (H.state shelf.old) (H.state shelf.new)
         (K.state out.old) (K.state out.new) result }
+    ensures emptied { IsOk result → K.out out.new ≡ (K.state out.new).taken }
     ensures later { (K.state out.old).faults ≤ (K.state out.new).faults }
 {
     match command {
@@ -46,7 +49,7 @@ fn obey_all<R: Threads + Wait + Sync, H: Shelf, K: Sink, G: Gate + Sync>(
 /// prints the history that they made together, and saves the bank. Every other command is that of
 /// [`crate::quiet::quiet`]. Each worker passes the gate before and after each of its lines. A race waits
 /// for turns: what is promised of it holds when it returns.
-pub fn norbank<R: Threads + Wait + Sync, H: Shelf, K: Sink, G: Gate + Sync>(
+pub fn norbank<R: Threads + Wait + Sync, H: Shelf, K: Output, G: Gate + Sync>(
     rt: &R,
     alloc: Global,
     words: &[String],
@@ -62,6 +65,9 @@ pub fn norbank<R: Threads + Wait + Sync, H: Shelf, K: Sink, G: Gate + Sync>(
         (K.state out.old) (K.state out.new) result.code }
     ensures ends { EndsAsAsked (asked words.now) (H.state shelf.old) (H.state shelf.new)
         (K.state out.old) (K.state out.new) result.code }
+    // All that was put has come out. Else a first part has, as of any output.
+    ensures emptied { result.code ≢ fault_told → result.code ≢ lacks_memory
+        → K.out out.new ≡ (K.state out.new).taken }
 {
     let command = command_of(words);
     let ended = obey_all(rt, alloc, command, shelf, out, gate);

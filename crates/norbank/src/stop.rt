@@ -167,7 +167,6 @@ impl From<RunError> for Stop {
     fn from(error: RunError) -> Stop {
         match error {
             RunError::Probe(error) => Stop::Unfound(error),
-            RunError::NotBuilt => Stop::NotBuilt,
             RunError::NoMemory => Stop::NoMemory,
             RunError::Put(error) => Stop::Output(error),
         }

@@ -1,14 +1,16 @@
 //! The last text of a command, which tells what stopped it.
-ghost use Rattle.std.specs.Prelude.{◌≡◌, ◌≤◌, ◌++◌, ◌⊎◌, MatchResult, Err, codes, string_bytes};
+ghost use Rattle.std.specs.Prelude.{◌≡◌, ◌≢◌, ◌≤◌, ◌++◌, ◌⊎◌, MatchResult, IsOk, Err, codes, string_bytes};
 ghost use Rattle.nor_io.specs.Puts.{PutsText};
-ghost use Rattle.norbank.specs.Endings.{Says, Tells, lacks_memory};
+ghost use Rattle.norbank.specs.Endings.{Says, Tells, fault_told, lacks_memory};
 ghost use Rattle.norbank.specs.Status.{AfterPut};
 ghost use Rattle.norbank.specs.Text.{kind_text as text_of_kind, too_large as text_of_large, bad_line, line_of, no_memory, image_text, script_text, probe_text};
 ghost use Rattle.norbank.specs.Words.{asked_by};
 
+use crate::emptying::said;
 use crate::stop::{Done, File, Stop};
 use crate::words::Command;
 use itoa::Buffer;
+use nor_buffer::Output;
 use nor_image::ImageError;
 use nor_io::{Sink, SinkError};
 use nor_probe::ProbeError;
@@ -243,7 +245,7 @@ fn tell_stop<K: Sink>(alloc: Global, command: Command, stop: Stop, out: &mut K) 
 }
 
 /// Tells what stopped a command, and gives the status with which it ends.
-pub fn tell<K: Sink>(
+pub fn tell<K: Output>(
     alloc: Global,
     command: Command,
     ended: Result<Done, Stop>,
@@ -251,12 +253,18 @@ pub fn tell<K: Sink>(
 ) -> Status
     ensures tells { Tells (asked_by command.entry) ended
         (K.state out.old) (K.state out.new) result.code }
+    ensures emptied { (IsOk ended → K.out out.old ≡ (K.state out.old).taken)
+        → result.code ≢ fault_told → result.code ≢ lacks_memory
+        → K.out out.new ≡ (K.state out.new).taken }
     ensures later { (K.state out.old).faults ≤ (K.state out.new).faults }
 {
     match ended {
         Ok(done) => Status {
             code: done.status(),
         },
-        Err(stop) => tell_stop(alloc, command, stop, out),
+        Err(stop) => {
+            let status = tell_stop(alloc, command, stop, out);
+            said(status, out)
+        }
     }
 }

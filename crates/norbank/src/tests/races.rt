@@ -47,16 +47,20 @@ fn ends<R: Threads + Wait + Sync>(
 const ONE_CALLER: &[u8] =
     b"1 program 0x3 0000\n1 read 0x2 4\n1 program 0x10 -\n# past the end\n1 read 0x1fff 2\n1 read 0x0 4097\n1 read 0x0 4000000000\n1 read 0x2000 0\n";
 
+const LOCKS_AND_ERASES: &[u8] =
+    b"1 program 0x0 00\n1 locked 0\n1 unlock 0\n1 erase 0\n1 lock 0\n1 erase 0\n1 erase-all\n1 read 0x0 4\n";
+
 #[test]
 fn a_race_of_one_caller_prints_what_a_run_prints(rt: HostRuntime) -> Result<(), Fail> {
     let alloc = rt.alloc();
     let banks = [
+        file_of(alloc, OneX16, &[])?,
         file_of(alloc, OnePlain, &[])?,
         file_of(alloc, TwoPlainX8, &[])?,
         file_of(alloc, FourPlainAmd, &[])?,
     ];
     for bank in &banks {
-        for script in [b"".as_slice(), ONE_CALLER] {
+        for script in [b"".as_slice(), ONE_CALLER, LOCKS_AND_ERASES] {
             let ran = ends(&rt, alloc, "run", bank, script, &[])?;
             let raced = ends(&rt, alloc, "race", bank, script, &[])?;
             assert_eq!(rt; raced.code, 0);
@@ -64,6 +68,26 @@ fn a_race_of_one_caller_prints_what_a_run_prints(rt: HostRuntime) -> Result<(), 
         }
     }
     Ok(())
+}
+
+#[test]
+fn a_race_of_one_caller_is_cut_where_a_run_is(rt: HostRuntime) -> Result<(), Fail> {
+    let alloc = rt.alloc();
+    let bank = file_of(alloc, OneX16, &[])?;
+    for cycles in 0..1_000u32 {
+        let script = format!(in alloc;
+            "cut {cycles} 0x0f\n1 unlock 0\n1 program 0x0 0000\n1 erase 0\n1 read 0x0 4\n"
+        )?;
+        let ran = ends(&rt, alloc, "run", &bank, script.as_bytes(), &[])?;
+        let raced = ends(&rt, alloc, "race", &bank, script.as_bytes(), &[])?;
+        assert!(rt; raced == ran);
+        if ran.code == 0 {
+            assert!(rt; cycles > 20);
+            return Ok(());
+        }
+        assert_eq!(rt; ran.code, 6);
+    }
+    panic!(rt; "cut each time")
 }
 
 // The lines of a report that are of one caller, without their positions.
@@ -119,7 +143,7 @@ fn callers_race_each_in_its_own_order(rt: HostRuntime) -> Result<(), Fail> {
 fn what_no_race_has_is_told(rt: HostRuntime) -> Result<(), Fail> {
     let alloc = rt.alloc();
     let bank = file_of(alloc, OnePlain, &[])?;
-    let cases: [(&[u8], u8, &[u8]); 7] = [
+    let cases: [(&[u8], u8, &[u8]); 5] = [
         (b"1 poll\n", 4, b"script: line 1: not here\n"),
         (
             b"1 read 0x0 1\n1 open 0\n",
@@ -133,8 +157,6 @@ fn what_no_race_has_is_told(rt: HostRuntime) -> Result<(), Fail> {
             b"script: line 2: not here\n",
         ),
         (b"9 read 0x0 1\n", 4, b"script: line 1: caller\n"),
-        (b"cut 3 0xff\n", 11, b"not built\n"),
-        (b"1 erase 0\n", 11, b"not built\n"),
     ];
     for (script, code, printed) in cases {
         let raced = ends(&rt, alloc, "race", &bank, script, &[])?;
@@ -142,10 +164,7 @@ fn what_no_race_has_is_told(rt: HostRuntime) -> Result<(), Fail> {
         assert_eq!(rt; raced.printed.as_slice(), printed);
         assert_eq!(rt; raced.bank.as_slice(), bank.as_slice());
     }
-    let locks = file_of(alloc, OneX16, &[])?;
-    let raced = ends(&rt, alloc, "race", &locks, b"", &[])?;
-    assert_eq!(rt; raced.code, 11);
-    // nor is one saved whose output fails
+    // nor is a bank saved whose output fails
     for call in 0..4u32 {
         let raced = ends(&rt, alloc, "race", &bank, b"1 program 0x3 00\n", &[call])?;
         assert_eq!(rt; raced.code, 7);

@@ -112,6 +112,69 @@ fn scripts_are_answered_and_banks_saved(rt: HostRuntime) -> Result<(), Fail> {
     Ok(())
 }
 
+// A bank, a script of erases, locks or cuts, and the status and the report with which it ends.
+type Line = (Bank, &'static [u8], u8, &'static [u8]);
+
+const LINES: [Line; 7] = [
+    // Chips that can't be suspended.
+    (
+        OnePlain,
+        b"1 open 0\n2 read 0x400 2\n2 read 0x0 1\n2 poll\n2 open 1\n1 poll\n1 poll\n1 poll\n1 poll\n1 read 0x0 2\n",
+        0,
+        b"0 1 open 0 -> opened\n1 2 read 0x400 2 -> not-yet\n2 2 read 0x0 1 -> busy 0\n3 2 poll -> nothing\n4 2 open 1 -> occupied 0\n5 1 poll -> not-yet\n6 1 poll -> not-yet\n7 1 poll -> not-yet\n8 1 poll -> erased\n9 1 read 0x0 2 -> ffff\nlane 0 suspends 0 erases 1\nhistory 10\n",
+    ),
+    (
+        OnePlain,
+        b"1 lock 0\n",
+        0,
+        b"0 1 lock 0 -> no-locks\nlane 0 suspends 0 erases 0\nhistory 1\n",
+    ),
+    // Two lines that print two entries each: the polls that had to wait print none.
+    (
+        OnePlain,
+        b"1 erase 0\n2 erase 9\n",
+        0,
+        b"0 1 open 0 -> opened\n1 1 poll -> erased\n2 2 open 9 -> out-of-range\nlane 0 suspends 0 erases 1\nhistory 3\n",
+    ),
+    // A chip with locks that can be suspended, and ends within its pace.
+    (
+        OneX16,
+        b"1 unlock 0\n1 open 0\n1 poll\n1 poll\n2 read 0x400 2\n2 read 0x0 1\n1 poll\n1 read 0x0 2\n",
+        0,
+        b"0 1 unlock 0 -> done\n1 1 open 0 -> opened\n2 1 poll -> not-yet\n3 1 poll -> not-yet\n4 2 read 0x400 2 -> 0001\n5 2 read 0x0 1 -> busy 0\n6 1 poll -> erased\n7 1 read 0x0 2 -> ffff\nlane 0 suspends 0 erases 1\nhistory 8\n",
+    ),
+    (
+        OneX16,
+        b"1 program 0x1 f0\n1 locked 0\n1 unlock 0\n1 program 0x1 f0\n1 read 0x0 2\n",
+        0,
+        b"0 1 program 0x1 f0 -> locked 0\n1 1 locked 0 -> yes\n2 1 unlock 0 -> done\n3 1 program 0x1 f0 -> done\n4 1 read 0x0 2 -> 0000\nlane 0 suspends 0 erases 0\nhistory 5\n",
+    ),
+    (
+        OneX16,
+        b"cut 0 0xff\n1 read 0x0 2\n1 read 0x2000 1\nreboot\n1 read 0x0 2\nreboot\n",
+        6,
+        b"0 0 cut 0 0xff -> done\n1 1 read 0x0 2 -> off 0\n2 1 read 0x2000 1 -> out-of-range\n3 0 reboot -> done\n4 1 read 0x0 2 -> 0001\n5 0 reboot -> nothing\nlane 0 suspends 0 erases 0\nhistory 6\n",
+    ),
+    (
+        OneX16,
+        b"1 unlock 0\n1 open 0\ncut 0 0x0f\n2 read 0x400 2\nreboot\n1 poll\n1 locked 0\n2 read 0x400 2\n2 read 0x0 2\n",
+        6,
+        b"0 1 unlock 0 -> done\n1 1 open 0 -> opened\n2 0 cut 0 0x0f -> done\n3 2 read 0x400 2 -> off 0\n4 0 reboot -> done\n5 1 poll -> nothing\n6 1 locked 0 -> yes\n7 2 read 0x400 2 -> 0001\n8 2 read 0x0 2 -> 0f0f\nlane 0 suspends 0 erases 1\nhistory 9\n",
+    ),
+];
+
+#[test]
+fn every_line_is_answered(rt: HostRuntime) -> Result<(), Fail> {
+    let alloc = rt.alloc();
+    for (bank, script, code, report) in LINES {
+        let file = file_of(alloc, bank, &[])?;
+        let ended = run_script(alloc, &file, script, &[], &[])?;
+        assert_eq!(rt; ended.code, code);
+        assert_eq!(rt; ended.printed.as_slice(), report);
+    }
+    Ok(())
+}
+
 // A bank, bytes of its file that are others, a script, and the status and the text with which it ends.
 type Refused = (Bank, Bytes, &'static [u8], u8, &'static [u8]);
 
@@ -167,22 +230,7 @@ const BAD_SCRIPTS: [Refused; 7] = [
     ),
 ];
 
-// The flag of a stuck lane stands at place 21 of the file.
-const NOT_BUILT: [Refused; 10] = [
-    (OnePlain, &[], b"1 open 0\n", 11, b"not built\n"),
-    (OnePlain, &[], b"1 poll\n", 11, b"not built\n"),
-    (OnePlain, &[], b"1 erase 0\n", 11, b"not built\n"),
-    (OnePlain, &[], b"1 lock 0\n", 11, b"not built\n"),
-    (OnePlain, &[], b"1 unlock 0\n", 11, b"not built\n"),
-    (OnePlain, &[], b"1 locked 0\n", 11, b"not built\n"),
-    (OnePlain, &[], b"cut 3 0xff\n", 11, b"not built\n"),
-    (OnePlain, &[], b"reboot\n", 11, b"not built\n"),
-    (OneX16, &[], b"", 11, b"not built\n"),
-    (OnePlain, &[(21, 1)], b"", 11, b"not built\n"),
-];
-
-// The first failure ends a run: a bad script on a bad image, on one that isn't built, and on a bank that
-// probing refuses.
+// The first failure ends a run: a bad script on a bad image, and on a bank that probing refuses.
 const FIRST: [Refused; 4] = [
     (OneX16, &[], b"1 reed 0x0 1\n", 4, b"script: line 1: word\n"),
     (
@@ -205,12 +253,10 @@ const FIRST: [Refused; 4] = [
 #[test]
 fn scripts_are_refused_and_files_stay(rt: HostRuntime) -> Result<(), Fail> {
     let alloc = rt.alloc();
-    for (bank, bytes, script, code, printed) in BAD_SCRIPTS.iter().chain(&NOT_BUILT).chain(&FIRST) {
+    for (bank, bytes, script, code, printed) in BAD_SCRIPTS.iter().chain(&FIRST) {
         let file = file_of(alloc, *bank, bytes)?;
         ends(&rt, alloc, &file, script, *code, printed, &file)?;
     }
-    let saved = saved_file_of(alloc, OnePlain, &[(21, 1)])?;
-    ends(&rt, alloc, &saved, b"", 11, b"not built\n", &saved)?;
     let whole = file_of(alloc, OnePlain, &[])?;
     let short = first_part(&whole, 8739);
     ends(

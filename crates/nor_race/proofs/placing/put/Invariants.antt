@@ -2,8 +2,8 @@ use Rattle.std.proofs.Common.{vec_len}
 use Rattle.nor_race.proofs.Putting.{PutTo}
 use Rattle.nor_race.proofs.placing.put.Given as goal
 
-abbrev pub invariant-loop-note : goal.invariant-loop-note
-invariant-loop-note l = PutTo l.fn.notes.items l.notes.items l.fn.table.items l.table.items
+abbrev pub invariant-loop-task : goal.invariant-loop-task
+invariant-loop-task l = PutTo l.fn.tasks.items l.tasks.items l.fn.table.items l.table.items
 
-abbrev pub decreases-loop-note : goal.decreases-loop-note
-decreases-loop-note l = vec_len l.notes
+abbrev pub decreases-loop-task : goal.decreases-loop-task
+decreases-loop-task l = vec_len l.tasks

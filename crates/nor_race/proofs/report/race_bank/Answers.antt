@@ -1,10 +1,9 @@
 use Rattle.std.proofs.Common.{true, sym}
 use Rattle.nor_run.proofs.Reporting.{reports, ends_run, keeps_lanes}
-use Rattle.nor_race.proofs.Printing.{script_races}
 use Rattle.nor_race.proofs.report.race_bank.Goals as goal
 
-pub race_and_put-bank-requires-clause-lines : goal.race_and_put-bank-requires-clause-lines
-race_and_put-bank-requires-clause-lines g c = λ κs lives. script_races c.args.script.now c.requires.script c.requires.built
+pub race_and_put-bank-requires-clause-fresh : goal.race_and_put-bank-requires-clause-fresh
+race_and_put-bank-requires-clause-fresh g c = λ κs lives. (c.in-Ok.ensures.started.running, c.in-Ok.ensures.started.closed)
 
 pub returns-in-Ok-clause-ends : goal.returns-in-Ok-clause-ends
 returns-in-Ok-clause-ends g c =

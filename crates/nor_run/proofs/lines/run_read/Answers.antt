@@ -4,5 +4,5 @@ use Rattle.nor_run.proofs.lines.run_read.Goals as goal
 
 pub returns-in-Some-clause-runs : goal.returns-in-Some-clause-runs
 returns-in-Some-clause-runs g c =
-    read_runs g.T.Taker.takes c.args.bank.now c.args.bank.now c.args.caller c.args.at c.args.len c.from.result c.args.position [] c.in-Some.reply _ _ c.hand_over.result
-    c.from.ensures (c.in-Some.ensures.call c.args.caller []) c.hand_over.ensures
+    read_runs g.T.Taker.takes c.args.bank.now c.args.bank.now c.args.caller c.args.at c.args.len c.from.result c.args.ran [] c.in-Some.reply _ _ c.hand_on.result
+    c.from.ensures (c.in-Some.ensures.call c.args.caller []) c.hand_on.ensures

@@ -1,13 +1,10 @@
-use Rattle.std.proofs.Common.{◌≡◌, ◌∙◌, refl, ap, sym, subst, List, ℕ, length, false, Ok, Err}
+use Rattle.std.proofs.Common.{◌≡◌, ◌∙◌, refl, ap, sym, subst, Bool, List, ℕ, length, Ok, Err}
 use Rattle.nor_cell.proofs.Logic.{if_gave}
-use Rattle.nor_run.specs.Built.{are_built}
 use Rattle.nor_script.specs.Script.{Reads, script_of}
-use Rattle.nor_script.specs.declared.line.Line.{Line}
-use Rattle.nor_script.proofs.Callers.{says_script}
+use Rattle.nor_script.proofs.Callers.{says_races, says_script}
 use Rattle.norbank.specs.Opened.{FailsJob}
 use Rattle.norbank.specs.declared.stop.Stop.TheVariants.{BadScript}
-use Rattle.norbank.proofs.Opening.{loaded_as, no_bank_file, no_script_file, no_bank, weak_bank, no_script, unbuilt_lines, image_free, chips_free, chips_weak}
-use Rattle.norbank.proofs.Stopping.{lines_stop}
+use Rattle.norbank.proofs.Opening.{loaded_as, no_bank_file, no_script_file, no_bank, no_script, image_free}
 use Rattle.norbank.proofs.jobs.job_of.Goals as goal
 
 pub returns-in_err-file-clause-stops : goal.returns-in_err-file-clause-stops
@@ -38,15 +35,6 @@ returns-in_err-loaded-clause-stops g c =
     (loaded_as (g.H.Shelf.state c.load.new.shelf).files was.files c.args.script.now c.in_ok-text.text.items c.load.ensures.same c.in_ok-text.ensures.loaded)
     c.in_err-loaded.ensures.stops)
 
-pub returns-then-not-is_built-clause-stops : goal.returns-then-not-is_built-clause-stops
-returns-then-not-is_built-clause-stops g c =
-    let file = c.in_ok-file.file.items in
-    let bank = c.in_ok-loaded.ensures.bank in
-    weak_bank c.args.race c.args.image.now c.args.script.now file c.in_ok-text.text.items
-    (g.H.Shelf.state c.args.shelf.now) (g.H.Shelf.state c.load-2.new.shelf) _ c.in_ok-file.ensures.loaded
-    (loaded_as (g.H.Shelf.state c.load.new.shelf).files (g.H.Shelf.state c.args.shelf.now).files c.args.script.now c.in_ok-text.text.items c.load.ensures.same c.in_ok-text.ensures.loaded)
-    refl (image_free file c.in_ok-loaded.loaded bank) (chips_weak file c.in_ok-loaded.loaded bank (sym c.if-not-is_built.ensures))
-
 pub returns-in_err-script-clause-stops : goal.returns-in_err-script-clause-stops
 returns-in_err-script-clause-stops g c =
     let was = g.H.Shelf.state c.args.shelf.now in
@@ -57,20 +45,8 @@ returns-in_err-script-clause-stops g c =
     if_gave c.from_residual-in_err-script.result (BadScript error) (FailsJob c.args.race c.args.image.now c.args.script.now was now) c.from_residual-in_err-script.ensures.1
     (no_script c.args.race c.args.image.now c.args.script.now file c.in_ok-text.text.items was now (BadScript error) c.in_ok-file.ensures.loaded
     (loaded_as (g.H.Shelf.state c.load.new.shelf).files was.files c.args.script.now c.in_ok-text.text.items c.load.ensures.same c.in_ok-text.ensures.loaded)
-    error refl (image_free file c.in_ok-loaded.loaded bank) (chips_free file c.in_ok-loaded.loaded bank (sym c.if-not-is_built.ensures))
+    error refl (image_free file c.in_ok-loaded.loaded bank)
     (subst (λ (t : List ℕ). Reads (script_of c.args.race t) (Err error)) c.deref.ensures.value c.in_err-script.ensures))
-
-pub returns-then-not-are_built-clause-stops : goal.returns-then-not-are_built-clause-stops
-returns-then-not-are_built-clause-stops g c =
-    let file = c.in_ok-file.file.items in
-    let bank = c.in_ok-loaded.ensures.bank in
-    let unbuilt : are_built c.in_ok-script.script ≡ false = ap (λ (ls : List Line). are_built ls) (sym c.lines.ensures) ∙ sym c.if-not-are_built.ensures in
-    let says : script_of c.args.race c.in_ok-text.text.items ≡ Ok c.in_ok-script.script = ap (λ (t : List ℕ). script_of c.args.race t) (sym c.deref.ensures.value) ∙ c.in_ok-script.ensures in
-    unbuilt_lines c.args.race c.args.image.now c.args.script.now file c.in_ok-text.text.items
-    (g.H.Shelf.state c.args.shelf.now) (g.H.Shelf.state c.load-2.new.shelf) _ c.in_ok-file.ensures.loaded
-    (loaded_as (g.H.Shelf.state c.load.new.shelf).files (g.H.Shelf.state c.args.shelf.now).files c.args.script.now c.in_ok-text.text.items c.load.ensures.same c.in_ok-text.ensures.loaded)
-    refl (image_free file c.in_ok-loaded.loaded bank) (chips_free file c.in_ok-loaded.loaded bank (sym c.if-not-is_built.ensures))
-    (lines_stop (script_of c.args.race c.in_ok-text.text.items) c.in_ok-script.script says unbuilt)
 
 pub returns-clause-ready : goal.returns-clause-ready
 returns-clause-ready g c = record {
@@ -79,10 +55,9 @@ returns-clause-ready g c = record {
   text = c.in_ok-text.text.items;
   is_text = loaded_as (g.H.Shelf.state c.load.new.shelf).files (g.H.Shelf.state c.args.shelf.now).files c.args.script.now c.in_ok-text.text.items c.load.ensures.same c.in_ok-text.ensures.loaded;
   is_bank = c.in_ok-loaded.ensures.bank;
-  built = sym c.if-not-is_built.ensures;
   is_script = ap (λ (t : List ℕ). script_of c.args.race t) (sym c.deref.ensures.value) ∙ c.in_ok-script.ensures;
-  lines = ap (λ (ls : List Line). are_built ls) (sym c.lines.ensures) ∙ sym c.if-not-are_built.ensures;
   loaded = c.in_ok-loaded.ensures.loaded;
   room = ap (λ (bytes : List ℕ). length bytes) c.in_ok-file-2.ensures.file;
   script = says_script c.args.race c.deref.result.now c.in_ok-script.script c.in_ok-script.ensures;
+  raced = λ races. says_races c.deref.result.now c.in_ok-script.script (subst (λ (race : Bool). script_of race c.deref.result.now ≡ Ok c.in_ok-script.script) races c.in_ok-script.ensures);
 }

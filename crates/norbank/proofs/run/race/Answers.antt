@@ -1,7 +1,10 @@
-use Rattle.std.proofs.Common.{true}
+use Rattle.std.proofs.Common.{true, refl}
 use Rattle.norbank.specs.Words.{Script}
 use Rattle.norbank.proofs.Doing.{does_given, no_job, job_does}
 use Rattle.norbank.proofs.run.race.Goals as goal
+
+pub race_job-requires-clause-script : goal.race_job-requires-clause-script
+race_job-requires-clause-script g c = λ κs lives. c.in_ok-job.ensures.ready.raced refl
 
 pub returns-in_err-job-clause-does : goal.returns-in_err-job-clause-does
 returns-in_err-job-clause-does g c =

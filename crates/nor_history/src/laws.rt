@@ -1,0 +1,12 @@
+//! What holds of every history.
+ghost use Rattle.nor_history.specs.Laws.{HistoriesFollow, OneCallLeads};
+
+/// A call of a bank that stands for an array is a history of its one entry.
+pub fn a_call_is_a_history()
+    ensures { OneCallLeads }
+{}
+
+/// A history that follows another makes one with it.
+pub fn a_history_behind_another_is_one()
+    ensures { HistoriesFollow }
+{}
