@@ -1,0 +1,5 @@
+pub mod Banks
+pub mod Chips
+pub mod Fits
+pub mod Sizes
+pub mod Words

@@ -1,0 +1,4 @@
+pub mod Changes
+pub mod Dump
+pub mod Made
+pub mod Table

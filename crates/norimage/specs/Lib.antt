@@ -1,0 +1,6 @@
+pub mod Endings
+pub mod Ends
+pub mod Options
+pub mod Stops
+pub mod Text
+pub mod Words
