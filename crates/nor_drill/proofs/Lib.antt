@@ -1,4 +1,5 @@
 pub mod Banks
+pub mod Runs
 pub mod Scripts
 pub mod Sums
 pub mod Tallies

@@ -7,7 +7,7 @@ use Rattle.std.proofs.lemmas.List.{length-set, length-replicate, get_or-replicat
 use Rattle.std.proofs.lemmas.List.FromFn.{fill_by_all}
 use Rattle.nor_array.specs.declared.entry.Entry.{Entry}
 use Rattle.nor_run.specs.Taking.{TakesAll}
-use Rattle.nor_drill.specs.Summary.{place_of_entry, count_of, no_counts, counted, Counts, TalliesCount}
+use Rattle.nor_drill.specs.Summary.{place_of_entry, count_of, no_counts, Counts, TalliesCount}
 
 -- one more where the entry counts there
 one_more : Bool → ℕ

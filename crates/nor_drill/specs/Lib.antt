@@ -1,3 +1,4 @@
 pub mod Drill
+pub mod Drilled
 pub mod Making
 pub mod Summary

@@ -11,6 +11,8 @@
 #![tactic(auto)]
 
 mod bank;
+mod drilled;
+mod drilling;
 mod laws;
 mod script;
 mod sum;
@@ -19,6 +21,8 @@ mod tables;
 mod tally;
 
 pub use bank::drill_bank;
+pub use drilled::{DrillError, Drilled};
+pub use drilling::drill;
 pub use laws::tallies_count;
 pub use script::drill_lines;
 pub use sum::sum_of;

@@ -21,7 +21,6 @@ use Rattle.nor_array.specs.declared.entry.Reply.{Reply}
 use Rattle.nor_array.specs.declared.entry.Reply.TheVariants.{Done, Opened, Erased, OutOfRange, TooLong, Occupied, Nothing, NotYet, Failed, Halted}
 use Rattle.nor_array.specs.declared.state.ArmedCut.{ArmedCut}
 use Rattle.nor_bank.specs.Calls.{MakesEntry, entry_of, entry_bytes, facts_of, given_by}
-use Rattle.nor_bank.specs.Counts.{erases_after}
 use Rattle.nor_bank.specs.Ranges.{words_met}
 use Rattle.nor_bank.specs.Refused.{bank_refusal, outline, Refuses, Works}
 use Rattle.nor_bank.specs.Stands.{Stands, under_of}

@@ -14,7 +14,7 @@ use Rattle.nor_bank.specs.Stands.{Stands, kept_power, PowerIs, CutIs}
 use Rattle.nor_bank.specs.State.{BankState}
 use Rattle.nor_bank.proofs.Using.{UsesBus, NoFurther}
 use Rattle.nor_driver.specs.Fronts.{is_call, words_of, cycles_left}
-use Rattle.nor_driver.proofs.Afters.{power_not_on, was_on}
+use Rattle.nor_driver.proofs.Afters.{was_on}
 use Rattle.nor_bank.proofs.RangeCalls.{on_runs}
 
 pub on_bus : (b : BankState) (a : ArrayState) → Stands b a → a.power ≡ On → b.bus.power ≡ true

@@ -1,8 +1,7 @@
 -- A front with one entry more, and with no more.
-use Rattle.std.proofs.Common.{◌≡◌, ◌<◌, ◌≤◌, ◌+◌, ◌∙◌, ◌++◌, ◌∷◌, ℕ, zero, suc, List, [], true, false, Some, None, refl, sym, ap, subst, arith, rules}
+use Rattle.std.proofs.Common.{◌≡◌, ◌<◌, ◌≤◌, ◌+◌, ◌∙◌, ◌++◌, ◌∷◌, ℕ, List, [], true, false, Some, None, refl, sym, ap, subst, arith, rules}
 use Rattle.std.specs.Prelude.{All}
 use Rattle.std.proofs.lemmas.List.Elements.{All-nil, All-push}
-use Rattle.nor_cell.specs.Chip.{counted}
 use Rattle.nor_bus.specs.Bus.{lanes_of, more}
 use Rattle.nor_bus.specs.Cycles.{KeepsLanes}
 use Rattle.nor_bus.proofs.Driving.{keeps_then}
@@ -18,6 +17,7 @@ use Rattle.nor_turn.specs.Fronts.{Name, Front}
 use Rattle.nor_bank.specs.Stands.{Stands}
 use Rattle.nor_bank.proofs.Keeping.{keeps_self}
 use Rattle.nor_bank.proofs.Lasting.{facts_last}
+use Rattle.nor_history.proofs.Histories.{words_then}
 use Rattle.nor_driver.specs.Fronts.{StandsFrom, StandsFor, entries_of, is_call, opens, loses, words_of, opened, lost, words_read, risen, cycles_left}
 use Rattle.nor_driver.proofs.Afters.{same_armed}
 use Rattle.nor_driver.proofs.Calls.{GoesOn, Rests}
@@ -40,8 +40,7 @@ lost_last [] e = omega arith
 lost_last (x ∷ es) e = let h = lost_last es e in omega arith
 
 words_last : (w : ℕ) (es : List Entry) (e : Entry) → words_read w (es ++ e ∷ []) ≡ words_read w es + words_of w e.reply e.op
-words_last w [] e = omega arith
-words_last w (x ∷ es) e = let h = words_last w es e in omega arith
+words_last w es e = let h = words_then w es (e ∷ []) in omega (arith, h)
 
 all_last : (P : Entry → Type 0) (es : List Entry) (e : Entry) → All P es → P e → All P (es ++ e ∷ [])
 all_last P es e all one = All-push P es e all one

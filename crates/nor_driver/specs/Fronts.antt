@@ -14,13 +14,12 @@ use Rattle.nor_array.specs.declared.entry.Halted.TheVariants.{Off as OffHalt}
 use Rattle.nor_array.specs.declared.entry.Op.{Op}
 use Rattle.nor_array.specs.declared.entry.Op.TheVariants.{Read, Program, EraseOpen, EraseAll, Poll, Lock, Unlock, IsLocked, Arm, PowerOn}
 use Rattle.nor_array.specs.declared.entry.Reply.{Reply}
-use Rattle.nor_array.specs.declared.entry.Reply.TheVariants.{Done, Opened, Erased, Failed, Halted as HaltedReply}
+use Rattle.nor_array.specs.declared.entry.Reply.TheVariants.{Opened, Erased, Failed, Halted as HaltedReply}
 use Rattle.nor_array.specs.declared.state.ArmedCut.{ArmedCut}
 use Rattle.nor_array.specs.declared.state.Power.{Power}
 use Rattle.nor_array.specs.declared.state.Power.TheVariants.{On, Off, Stuck}
 use Rattle.nor_bank.specs.Calls.{facts_of}
-pub use Rattle.nor_history.specs.Histories.{opens, opened, risen}
-use Rattle.nor_bank.specs.Ranges.{words_met}
+pub use Rattle.nor_history.specs.Histories.{opens, opened, risen, words_of, words_read}
 use Rattle.nor_bank.specs.Stands.{Stands}
 use Rattle.nor_bank.specs.State.{BankState, word_bytes}
 use Rattle.nor_bank.specs.Work.{KeepsBank}
@@ -51,19 +50,10 @@ abbrev pub loses : Reply → ℕ
 loses (HaltedReply (OffHalt n)) = 1
 loses _ = 0
 
--- how many bus words a read that is done has read
-abbrev pub words_of : ℕ → Reply → Op → ℕ
-words_of w Done (Read at len) = words_met at len w
-words_of w _ op = 0
-
 -- the same of all entries
 abbrev pub lost : List Entry → ℕ
 lost [] = 0
 lost (e ∷ es) = loses e.reply + lost es
-
-abbrev pub words_read : ℕ → List Entry → ℕ
-words_read w [] = 0
-words_read w (e ∷ es) = words_of w e.reply e.op + words_read w es
 
 -- ---- who has an erase under way
 

@@ -6,14 +6,15 @@ use Rattle.nor_bus.specs.Bus.{lane}
 use Rattle.nor_bus.specs.Driven.{EachLane}
 use Rattle.nor_array.specs.Array.{ArrayState}
 use Rattle.nor_array.specs.After.{after, after_all}
+use Rattle.nor_array.specs.Entries.{is_halt}
 use Rattle.nor_array.specs.Legal.{Facts, Legal}
 use Rattle.nor_array.specs.Needs.{needs_of}
-use Rattle.nor_array.specs.Refusals.{refusal, first_some, when, kept_halt, has_nothing, while_open, first_busy, busy_or_occupied, armed_after, is_outside, is_too_long, is_power_on}
+use Rattle.nor_array.specs.Refusals.{refusal, first_some, when, kept_halt, has_nothing, while_open, first_busy, busy_or_occupied, first_open, armed_after, is_outside, is_too_long, is_power_on}
 use Rattle.nor_array.specs.declared.entry.Entry.{Entry}
 use Rattle.nor_array.specs.declared.entry.Op.{Op}
 use Rattle.nor_array.specs.declared.entry.Op.TheVariants.{Read, Program, EraseOpen, EraseAll, Poll, Lock, Unlock, IsLocked, Arm, PowerOn}
 use Rattle.nor_array.specs.declared.entry.Reply.{Reply}
-use Rattle.nor_array.specs.declared.entry.Reply.TheVariants.{Done, Opened, OutOfRange, TooLong, Nothing, NotYet, NoLocks, NoChipErase, Halted}
+use Rattle.nor_array.specs.declared.entry.Reply.TheVariants.{Done, Opened, OutOfRange, TooLong, Busy, Occupied, Nothing, NotYet, NoLocks, NoChipErase, Halted}
 use Rattle.nor_array.specs.declared.entry.Halted.TheVariants.{Off as OffHalt}
 use Rattle.nor_array.specs.declared.state.ArmedCut.{ArmedCut}
 use Rattle.nor_array.specs.declared.state.OpenErase.{OpenErase}
@@ -21,7 +22,7 @@ use Rattle.nor_array.specs.declared.state.Power.{Power}
 use Rattle.nor_array.specs.declared.state.Power.TheVariants.{On, Off, Stuck}
 use Rattle.nor_bank.specs.Calls.{MakesEntry, entry_of, entry_bytes, facts_of}
 use Rattle.nor_bank.specs.Counts.{erases_after}
-use Rattle.nor_history.specs.Histories.{opens, opened, risen, IsMadeBy, Makes, Leads}
+use Rattle.nor_history.specs.Histories.{opens, opened, risen, words_read, IsMadeBy, Makes, Leads}
 use Rattle.nor_bank.specs.Refused.{bank_refusal, outline}
 use Rattle.nor_bank.specs.Stands.{Stands}
 use Rattle.nor_bank.specs.State.{BankState}
@@ -30,51 +31,98 @@ use Rattle.nor_bank.specs.Work.{KeepsBank}
 use Rattle.nor_bank.proofs.Lasting.{facts_last}
 use Rattle.nor_bank.proofs.RangeCalls.{refused_counts, same_counts}
 
--- ---- no refusal opens an erase
+-- ---- what a refusal answers
 
-abbrev OpensNone : Option Reply → Type 0
-OpensNone None = Unit {0}
-OpensNone (Some r) = opens r ≡ 0
+-- a reply that comes without asking the chips
+abbrev pub is_refusal : Reply → Bool
+is_refusal OutOfRange = true
+is_refusal TooLong = true
+is_refusal (Halted cause) = true
+is_refusal Nothing = true
+is_refusal (Busy b) = true
+is_refusal (Occupied b) = true
+is_refusal NoLocks = true
+is_refusal NoChipErase = true
+is_refusal r = false
 
-first_none : (o : Option Reply) (later : List (Option Reply)) → OpensNone o → OpensNone (first_some later) → OpensNone (first_some (o ∷ later))
-first_none None later one rest = rest
-first_none (Some r) later one rest = one
+-- what holds of a refusal, where there is one
+abbrev OfRefusal : (P : Reply → Type 0) → Option Reply → Type 0
+OfRefusal P None = Unit {0}
+OfRefusal P (Some r) = P r
 
-when_none : (holds : Bool) (r : Reply) → opens r ≡ 0 → OpensNone (when holds r)
-when_none true r none = none
-when_none false r none = tt
+first_of : (P : Reply → Type 0) (o : Option Reply) (later : List (Option Reply)) → OfRefusal P o → OfRefusal P (first_some later) → OfRefusal P (first_some (o ∷ later))
+first_of P None later one rest = rest
+first_of P (Some r) later one rest = one
 
-kept_none : (power : Power) (armed : Option ArmedCut) (op : Op) → OpensNone (kept_halt power armed op)
-kept_none On armed op = tt
-kept_none Off armed op = by_test (is_power_on op)
-  where
-    by_test : (b : Bool) → OpensNone (if b then None else Some (Halted (OffHalt (armed_after armed))))
-    by_test true = tt
-    by_test false = refl
-kept_none (Stuck k) armed op = refl
+when_of : (P : Reply → Type 0) (holds : Bool) (r : Reply) → P r → OfRefusal P (when holds r)
+when_of P true r is = is
+when_of P false r is = tt
 
-busy_none : (busy : Option ℕ) (e : OpenErase) (opening : Bool) → OpensNone (busy_or_occupied busy e opening)
-busy_none None e true = refl
-busy_none None e false = tt
-busy_none (Some b) e opening = refl
+-- what holds of all that aren't halts
+record OfOthers (P : Reply → Type 0) : Type 0 where
+  pub range : P OutOfRange
+  pub long : P TooLong
+  pub nothing : P Nothing
+  pub busy : (b : ℕ) → P (Busy b)
+  pub occupied : (b : ℕ) → P (Occupied b)
+  pub locks : P NoLocks
+  pub chip_erase : P NoChipErase
 
-open_none : (under : Option OpenErase) (a : ArrayState) (op : Op) → OpensNone (while_open under a (needs_of op))
-open_none None a op = tt
-open_none (Some e) a op = busy_none (first_busy e a (needs_of op)) e (needs_of op).opens
+busy_of : (P : Reply → Type 0) (busy : Option ℕ) (e : OpenErase) (opening : Bool) → OfOthers P → OfRefusal P (busy_or_occupied busy e opening)
+busy_of P None e true each = each.occupied (first_open e.target)
+busy_of P None e false each = tt
+busy_of P (Some b) e opening each = each.busy b
 
-refusal_none : (a : ArrayState) (caller : ℕ) (op : Op) → OpensNone (refusal a caller op)
-refusal_none a caller op =
-    first_none _ _ (when_none (is_outside a (needs_of op).reach) OutOfRange refl)
-    (first_none _ _ (when_none (is_too_long (needs_of op).reach) TooLong refl)
-    (first_none _ _ (kept_none a.power a.armed op)
-    (first_none _ _ (when_none (has_nothing a caller op) Nothing refl)
-    (first_none _ _ (open_none a.under a op)
-    (first_none _ _ (when_none ((needs_of op).locks && not a.consts.has_locks) NoLocks refl)
-    (first_none _ _ (when_none ((needs_of op).chip_erase && not a.consts.has_chip_erase) NoChipErase refl)
+open_of : (P : Reply → Type 0) (under : Option OpenErase) (a : ArrayState) (op : Op) → OfOthers P → OfRefusal P (while_open under a (needs_of op))
+open_of P None a op each = tt
+open_of P (Some e) a op each = busy_of P (first_busy e a (needs_of op)) e (needs_of op).opens each
+
+refusal_of : (P : Reply → Type 0) (a : ArrayState) (caller : ℕ) (op : Op) → OfOthers P → OfRefusal P (kept_halt a.power a.armed op) → OfRefusal P (refusal a caller op)
+refusal_of P a caller op each kept =
+    first_of P _ _ (when_of P (is_outside a (needs_of op).reach) OutOfRange each.range)
+    (first_of P _ _ (when_of P (is_too_long (needs_of op).reach) TooLong each.long)
+    (first_of P _ _ kept
+    (first_of P _ _ (when_of P (has_nothing a caller op) Nothing each.nothing)
+    (first_of P _ _ (open_of P a.under a op each)
+    (first_of P _ _ (when_of P ((needs_of op).locks && not a.consts.has_locks) NoLocks each.locks)
+    (first_of P _ _ (when_of P ((needs_of op).chip_erase && not a.consts.has_chip_erase) NoChipErase each.chip_erase)
     tt))))))
 
+abbrev Refuses : Reply → Type 0
+Refuses r = is_refusal r ≡ true
+
+kept_refuses : (power : Power) (armed : Option ArmedCut) (op : Op) → OfRefusal Refuses (kept_halt power armed op)
+kept_refuses On armed op = tt
+kept_refuses Off armed op = by_test (is_power_on op)
+  where
+    by_test : (b : Bool) → OfRefusal Refuses (if b then None else Some (Halted (OffHalt (armed_after armed))))
+    by_test true = tt
+    by_test false = refl
+kept_refuses (Stuck k) armed op = refl
+
+pub refused_is : (b : BankState) (caller : ℕ) (op : Op) (r : Reply) → bank_refusal b caller op ≡ Some r → is_refusal r ≡ true
+refused_is b caller op r is = subst (OfRefusal Refuses) is (refusal_of Refuses (outline b) caller op each (kept_refuses (outline b).power (outline b).armed op))
+  where
+    each : OfOthers Refuses
+    each = record { range = refl; long = refl; nothing = refl; busy = λ b. refl; occupied = λ b. refl; locks = refl; chip_erase = refl }
+
+-- while power is on none is a halt
+pub refused_goes_on : (a : ArrayState) (caller : ℕ) (op : Op) (r : Reply) → a.power ≡ On → refusal a caller op ≡ Some r → is_halt r ≡ false
+refused_goes_on a caller op r power is = subst (OfRefusal GoesOn) is (refusal_of GoesOn a caller op each (subst (λ (p : Power). OfRefusal GoesOn (kept_halt p a.armed op)) (sym power) tt))
+  where
+    GoesOn : Reply → Type 0
+    GoesOn r = is_halt r ≡ false
+
+    each : OfOthers GoesOn
+    each = record { range = refl; long = refl; nothing = refl; busy = λ b. refl; occupied = λ b. refl; locks = refl; chip_erase = refl }
+
+-- no refusal opens an erase
+refusal_opens : (r : Reply) → is_refusal r ≡ true → opens r ≡ 0
+refusal_opens Opened refuses = cc
+refusal_opens r refuses = refl
+
 pub refused_opens : (b : BankState) (caller : ℕ) (op : Op) (r : Reply) → bank_refusal b caller op ≡ Some r → opens r ≡ 0
-refused_opens b caller op r is = subst OpensNone is (refusal_none (outline b) caller op)
+refused_opens b caller op r is = refusal_opens r (refused_is b caller op r is)
 
 -- ---- each call counts the erase that it opens
 
@@ -212,7 +260,11 @@ pub risen_then : (n j k : ℕ) → risen (risen n j) k ≡ risen n (j + k)
 risen_then n j zero = let h : j ≡ j + 0 = omega arith in ap (risen n) h
 risen_then n j (suc k) = let h : suc (j + k) ≡ j + suc k = omega arith in ap counted (risen_then n j k) ∙ ap (risen n) h
 
-after_then : (a : ArrayState) (xs ys : List Entry) → after_all a (xs ++ ys) ≡ after_all (after_all a xs) ys
+pub words_then : (w : ℕ) (xs ys : List Entry) → words_read w (xs ++ ys) ≡ words_read w xs + words_read w ys
+words_then w [] ys = let h : words_read w ys ≡ 0 + words_read w ys = omega arith in h
+words_then w (x ∷ xs) ys = let rest = words_then w xs ys in omega (arith, rest)
+
+pub after_then : (a : ArrayState) (xs ys : List Entry) → after_all a (xs ++ ys) ≡ after_all (after_all a xs) ys
 after_then a [] ys = refl
 after_then a (x ∷ xs) ys = after_then (after a x) xs ys
 

@@ -7,10 +7,11 @@ use Rattle.nor_array.specs.After.{after_all}
 use Rattle.nor_array.specs.Legal.{Legal}
 use Rattle.nor_array.specs.declared.entry.Entry.{Entry}
 use Rattle.nor_array.specs.declared.entry.Op.{Op}
-use Rattle.nor_array.specs.declared.entry.Op.TheVariants.{Arm, PowerOn}
+use Rattle.nor_array.specs.declared.entry.Op.TheVariants.{Read, Arm, PowerOn}
 use Rattle.nor_array.specs.declared.entry.Reply.{Reply}
-use Rattle.nor_array.specs.declared.entry.Reply.TheVariants.{Opened}
+use Rattle.nor_array.specs.declared.entry.Reply.TheVariants.{Done, Opened}
 use Rattle.nor_bank.specs.Calls.{facts_of}
+use Rattle.nor_bank.specs.Ranges.{words_met}
 use Rattle.nor_bank.specs.Stands.{Stands}
 use Rattle.nor_bank.specs.State.{BankState}
 use Rattle.nor_bank.specs.Whole.{IsCallOf, Arms, PowersBank}
@@ -32,6 +33,18 @@ opened (e ∷ es) = opens e.reply + opened es
 abbrev pub risen : ℕ → ℕ → ℕ
 risen count zero = count
 risen count (suc k) = counted (risen count k)
+
+-- ---- how much was read
+
+-- how many bus words of w bytes a read that is done has read
+abbrev pub words_of : (w : ℕ) → Reply → Op → ℕ
+words_of w Done (Read at len) = words_met at len w
+words_of w _ op = 0
+
+-- the same of all entries
+abbrev pub words_read : (w : ℕ) → List Entry → ℕ
+words_read w [] = 0
+words_read w (e ∷ es) = words_of w e.reply e.op + words_read w es
 
 -- ---- one call
 

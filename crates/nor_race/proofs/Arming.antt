@@ -16,6 +16,8 @@ use Rattle.nor_array.specs.declared.entry.Op.TheVariants.{Arm}
 use Rattle.nor_array.specs.declared.entry.Reply.{Reply}
 use Rattle.nor_array.specs.declared.entry.Reply.TheVariants.{Done, Halted}
 use Rattle.nor_array.proofs.Histories.{after_last, legal_more}
+use Rattle.nor_history.specs.Histories.{words_of, words_read}
+use Rattle.nor_history.proofs.Histories.{words_then}
 use Rattle.nor_bank.specs.Calls.{entry_of, facts_of, MakesEntry}
 use Rattle.nor_bank.specs.Refused.{bank_refusal}
 use Rattle.nor_bank.specs.Stands.{Stands}
@@ -53,6 +55,10 @@ cut_armed line n m old new reply cut word running arms =
       makes = λ a stands. subst (λ (r : Reply). MakesEntry old new (entry_of old new 0 (Arm n m) r []) a) done.0 (arms.makes a stands);
     }
 
+-- it reads nothing
+no_words : (w : ℕ) (e : Entry) (n m : ℕ) → e.reply ≡ Done → e.op ≡ Arm n m → words_of w e.reply e.op ≡ 0
+no_words w e n m done arms = ap (λ (r : Reply). words_of w r e.op) done ∙ ap (λ (o : Op). words_of w Done o) arms
+
 -- ---- a bank in which cuts are armed
 
 pub armed_none : (b : BankState) → IsArmed b b
@@ -84,6 +90,7 @@ pub record ArmedTo (lines : List Line) (start notes : List NoteView) (old now : 
   pub told : (k : ℕ) (note : NoteView) (e : Entry) → slice_get notes k ≡ Some note → slice_get entries k ≡ Some e → Tells lines note e
   pub answers : AnswersLines (take i (lines_by 0 lines)) entries
   pub done : All (λ (e : Entry). e.reply ≡ Done) entries
+  pub unread : (w : ℕ) → words_read w entries ≡ 0
   pub armed : IsArmed old now
   pub leads : (a : ArrayState) → Stands old a → ArmsFrom old now entries a
 
@@ -98,6 +105,7 @@ armed_first lines start b are = record {
   told = λ k note e at there. none_some e there;
   answers = refl;
   done = λ k d below. absurd (omega (arith, below));
+  unread = λ w. refl;
   armed = armed_none b;
   leads = λ a stands. record { legal = tt; stands = stands };
 }
@@ -167,6 +175,10 @@ armed_more lines start notes old now next i note other new line reply are so bel
           (subst (λ (w : Word). AnswersWord w of.line.caller (arms.entry ∷ [])) (sym (ap (λ (l : Line). l.word) (sym line_of) ∙ arms.cut.word))
           (record { called_by = arms.by ∙ sym of.cut.caller; calls = arms.op }))));
       done = All-push (λ (e : Entry). e.reply ≡ Done) so.entries arms.entry so.done arms.reply_is;
+      unread = λ w.
+          let before = so.unread w in
+          let mine = no_words w arms.entry arms.cut.after arms.cut.mask arms.reply_is arms.op in
+          words_then w so.entries (arms.entry ∷ []) ∙ omega (arith, before, mine);
       armed = armed_then old now next so.armed arms.armed;
       leads = λ a stands.
           let before = so.leads a stands in
@@ -206,6 +218,7 @@ all_armed lines start notes old now i are so long least = record {
   answers = subst (λ (ls : List Line). AnswersLines ls so.entries)
       (take_all i (lines_by 0 lines) (let h = are.places.count in let k = map_size (λ (n : NoteView). n.line) start in let s = so.size in omega (arith, h, k, s, long))) so.answers;
   done = so.done;
+  unread = so.unread;
   armed = so.armed;
   leads = so.leads;
 }

@@ -9,6 +9,7 @@ use Rattle.nor_io.specs.declared.sink.SinkError.{SinkError}
 use Rattle.nor_array.specs.Array.{ArrayState}
 use Rattle.nor_array.specs.After.{after_all}
 use Rattle.nor_array.specs.Entries.{is_halt}
+use Rattle.nor_array.specs.declared.state.ArmedCut.{ArmedCut}
 use Rattle.nor_array.specs.declared.entry.Entry.{Entry}
 use Rattle.nor_array.specs.declared.entry.Op.{Op}
 use Rattle.nor_array.specs.declared.entry.Op.TheVariants.{Read}
@@ -16,7 +17,9 @@ use Rattle.nor_array.specs.declared.entry.Reply.{Reply}
 use Rattle.nor_array.specs.declared.entry.Reply.TheVariants.{Done}
 use Rattle.nor_bank.specs.Calls.{facts_of}
 use Rattle.nor_bank.specs.Stands.{Stands}
-use Rattle.nor_bank.specs.State.{BankState}
+use Rattle.nor_bank.specs.State.{BankState, word_bytes}
+use Rattle.nor_history.specs.Histories.{words_read}
+use Rattle.nor_history.proofs.Histories.{after_then, words_then}
 use Rattle.nor_bank.specs.declared.kept.Erasing.{Erasing}
 use Rattle.nor_script.specs.Racing.{IsRaceScript}
 use Rattle.nor_script.specs.declared.line.Line.{Line}
@@ -150,6 +153,9 @@ stops_in_entries takes es k e before mid after ran stop at so hands =
 pub all_handed : {T E : Type 0} (takes : Takes T E) (es : List Entry) (n : ℕ) (before after : T) (ran : Ran) → length es ≤ n → HandsAll takes (take n es) before after ran → HandsAll takes es before after ran
 all_handed takes es n before after ran all so = subst (λ (ys : List Entry). HandsAll takes ys before after ran) (take_all n es all) so
 
+true_false : true ≡ false → ⊥
+true_false is = cc
+
 -- ---- the whole race
 
 -- the callers of a race are counted from 1
@@ -176,6 +182,23 @@ race_closed lines old new notes races a script stands =
     none_opened lines races.arms.entries races.races.front (facts_of races.armed) (after_all a races.arms.entries) script races.answers (callers_some lines old new notes races) on.legal in
     none_kept new.erase (sym (ap (λ (o : Option Opener). option_map (λ (x : Opener). x.caller) o) none) ∙ races.races.stands.erase.opener)
 
+-- no cut of it reads, and what the workers read is no more than the last of them has
+race_reads : (lines : List Line) (old new : BankState) (notes : List NoteView) (races : Races lines old new notes) (a : ArrayState) → Stands old a → (cut : ArmedCut)
+    → (after_all a (races.arms.entries ++ entries_of races.races.front)).armed ≡ Some cut
+    → words_read (word_bytes old.found) (races.arms.entries ++ entries_of races.races.front) ≤ cut.after
+race_reads lines old new notes races a stands cut armed =
+    let cuts = races.arms.entries in
+    let raced = entries_of races.races.front in
+    let before = races.arms.leads a stands in
+    let w = word_bytes old.found in
+    let later = (races.races.stands.each (after_all a cuts) before.stands).reads cut (ap (λ (x : ArrayState). x.armed) (sym (after_then a cuts raced)) ∙ armed) in
+    let same : word_bytes races.armed.found ≡ w = ap (λ (b : BankState). word_bytes b.found) races.arms.armed.is in
+    let within : words_read (word_bytes races.armed.found) raced ≤ cut.after = omega (arith, later) in
+    let here = subst (λ (k : ℕ). words_read k raced ≤ cut.after) same within in
+    let none = races.arms.unread w in
+    let all = words_then w cuts raced in
+    omega (arith, here, none, all)
+
 abbrev history : (lines : List Line) (old new : BankState) (notes : List NoteView) → Races lines old new notes → List Entry
 history lines old new notes races = races.arms.entries ++ entries_of races.races.front
 
@@ -184,10 +207,9 @@ history_of lines old new notes races script = record {
   answers = races.answers;
   leads = races.leads;
   closed = λ raced a stands free. race_closed lines old new notes races a script stands;
+  reads = λ raced a stands. race_reads lines old new notes races a stands;
+  goes = λ alone. absurd (true_false alone);
 }
-
-true_false : true ≡ false → ⊥
-true_false is = cc
 
 -- all was handed over, or a part
 whole_raced : {T E : Type 0} (takes : Takes T E) (lines : List Line) (old new : BankState) (notes : List NoteView) (before after : T) (ran : Result Ran E) → IsRaceScript lines → Races lines old new notes

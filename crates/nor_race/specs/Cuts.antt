@@ -9,6 +9,7 @@ use Rattle.nor_array.specs.declared.entry.Op.TheVariants.{Arm}
 use Rattle.nor_array.specs.declared.entry.Reply.{Reply}
 use Rattle.nor_array.specs.declared.entry.Reply.TheVariants.{Done}
 use Rattle.nor_bank.specs.Calls.{facts_of, MakesEntry}
+use Rattle.nor_history.specs.Histories.{words_read}
 use Rattle.nor_bank.specs.Stands.{Stands}
 use Rattle.nor_bank.specs.State.{BankState}
 use Rattle.nor_script.specs.Answering.{AnswersLines, lines_by}
@@ -73,5 +74,6 @@ pub record ArmsAll (lines : List Line) (notes : List NoteView) (old new : BankSt
   pub cuts : AreCuts lines notes
   pub answers : AnswersLines (lines_by 0 lines) entries
   pub done : All (λ e. e.reply ≡ Done) entries
+  pub unread : (w : ℕ) → words_read w entries ≡ 0
   pub armed : IsArmed old new
   pub leads : (a : ArrayState) → Stands old a → ArmsFrom old new entries a

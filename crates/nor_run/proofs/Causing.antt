@@ -26,7 +26,7 @@ use Rattle.nor_cell.proofs.Logic.{none_pass}
 
 -- ---- lines without a cut are answered by entries that arm none
 
-any_none : {A : Type 0} (test : A → Bool) (xs ys : List A) → list_any test xs ≡ false → list_any test ys ≡ false → list_any test (xs ++ ys) ≡ false
+pub any_none : {A : Type 0} (test : A → Bool) (xs ys : List A) → list_any test xs ≡ false → list_any test ys ≡ false → list_any test (xs ++ ys) ≡ false
 any_none test [] ys front back = back
 any_none test (x ∷ xs) ys front back =
     let split = none_pass (test x) (list_any test xs) front in
@@ -107,7 +107,7 @@ none_stuck [] none k = refl
 none_stuck (s ∷ chips) none zero = (none_pass s.part.stuck (has_stuck chips) none).0
 none_stuck (s ∷ chips) none (suc k) = none_stuck chips (none_pass s.part.stuck (has_stuck chips) none).1 k
 
-legally_caused : (race : Bool) (lines : List Line) (old new : BusState) (found : Found) (es : List Entry) → RunsLegally race old new found es
+pub legally_caused : (race : Bool) (lines : List Line) (old new : BusState) (found : Found) (es : List Entry) → RunsLegally race old new found es
     → Answers race lines es → has_halt es ≡ true → MayHalt lines old.lanes
 legally_caused race lines old new found es runs answers halts = by_tests (has_cut lines) (has_stuck old.lanes) refl refl
   where

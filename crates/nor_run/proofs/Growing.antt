@@ -1,5 +1,5 @@
 -- A history that grows, line by line.
-use Rattle.std.proofs.Common.{◌≡◌, ◌<◌, ◌≤◌, ◌+◌, ◌*◌, ◌∙◌, ◌||◌, IfOk, IfErr, ◌++◌, ◌∷◌, ℕ, zero, suc, List, [], length, take, get_or, Bool, true, false, Result, Ok, Err, refl, sym, ap, subst, arith, append_assoc}
+use Rattle.std.proofs.Common.{◌≡◌, ◌<◌, ◌≤◌, ◌+◌, ◌*◌, ◌∙◌, ◌||◌, IfOk, IfErr, ◌++◌, ◌∷◌, ℕ, zero, suc, List, [], length, take, get_or, Bool, true, false, Result, Ok, Err, refl, sym, ap, subst, arith, append_assoc, append-nil}
 use Rattle.std.specs.Prelude.{All}
 use Rattle.std.proofs.lemmas.List.{length-append, take_all}
 use Rattle.std.proofs.lemmas.List.Elements.{All-head, All-tail}
@@ -18,12 +18,15 @@ use Rattle.nor_script.specs.declared.line.Line.{Line}
 use Rattle.nor_script.specs.declared.line.Word.{Word}
 use Rattle.nor_script.specs.declared.line.Word.TheVariants.{Call, Erase, EraseAll as EraseAllLine}
 use Rattle.nor_script.proofs.Answered.{answers_line, answers_more}
+use Rattle.nor_history.specs.Bounds.{Step, Tally, Fits, Goes, entries_of, steps_as, tally_all}
 use Rattle.nor_history.specs.Histories.{Leads}
 use Rattle.nor_bank.specs.Stands.{Stands}
 use Rattle.nor_bank.specs.State.{BankState}
 use Rattle.nor_bank.specs.Work.{KeepsBank}
+use Rattle.nor_history.proofs.Bounded.{goes_none, goes_then}
 use Rattle.nor_history.proofs.Histories.{leads_none, leads_then}
 use Rattle.nor_run.specs.Running.{RunsTo, IsHistoryOf, RunsWhole, RunsPart, RunsLines, EndsLines}
+use Rattle.nor_run.specs.Steps.{AreStepsOf, GoesBy, waits_for}
 use Rattle.nor_run.specs.Started.{of_put}
 use Rattle.nor_run.specs.Taking.{told, Takes, TakesAll, PutsBy}
 use Rattle.nor_run.specs.declared.error.RunError.{RunError}
@@ -76,11 +79,46 @@ pub record RunsSoFar {T E : Type 0} (takes : Takes T E) (lines : List Line) (n :
   pub entries : ran.entries ≡ length history
   pub halted : ran.halted ≡ has_halt history
 
+-- ---- steps that grow
+
+goes_none_by : (b : BankState) (a : ArrayState) (t : Tally) → Fits t b → GoesBy [] [] b b a t
+goes_none_by b a t fits = record { steps = []; entries = refl; of = refl; goes = goes_none b a t fits }
+
+entries_as : (waits : Bool) (es : List Entry) → entries_of (steps_as waits es) ≡ es
+entries_as waits [] = refl
+entries_as waits (e ∷ es) = ap (λ (later : List Entry). e ∷ later) (entries_as waits es)
+
+entries_then : (xs ys : List Step) → entries_of (xs ++ ys) ≡ entries_of xs ++ entries_of ys
+entries_then [] ys = refl
+entries_then (x ∷ xs) ys = ap (λ (later : List Entry). x.entry ∷ later) (entries_then xs ys)
+
+-- the steps of one line more
+steps_more : (lines : List Line) (line : Line) (steps : List Step) (es : List Entry) → AreStepsOf lines steps → AnswersWord line.word line.caller es
+    → AreStepsOf (lines ++ line ∷ []) (steps ++ steps_as (waits_for line.word) es)
+steps_more [] line steps es none answers =
+    subst (λ (ss : List Step). AreStepsOf (line ∷ []) (ss ++ steps_as (waits_for line.word) es)) (sym none)
+    (es, [], sym (append-nil (steps_as (waits_for line.word) es)), answers, refl)
+steps_more (x ∷ lines) line steps es of answers =
+    let later = steps_as (waits_for line.word) es in
+    (of.0, of.1 ++ later, ap (λ (ss : List Step). ss ++ later) of.2 ∙ append_assoc (steps_as (waits_for x.word) of.0) of.1 later, of.3, steps_more lines line of.1 es of.4 answers)
+
+goes_more : (lines : List Line) (line : Line) (old now new : BankState) (es more : List Entry) (a : ArrayState) (t : Tally) → AnswersWord line.word line.caller more → KeepsBank old now
+    → (so : GoesBy lines es old now a t)
+    → Goes (steps_as (waits_for line.word) more) now new (after_all a (entries_of so.steps)) (tally_all old a t so.steps) → GoesBy (lines ++ line ∷ []) (es ++ more) old new a t
+goes_more lines line old now new es more a t answers keeps so goes =
+    let later = steps_as (waits_for line.word) more in
+    record {
+      steps = so.steps ++ later;
+      entries = entries_then so.steps later ∙ (λ i. so.entries i ++ entries_as (waits_for line.word) more i);
+      of = steps_more lines line so.steps more so.of answers;
+      goes = goes_then so.steps later old now new a t keeps so.goes goes;
+    }
+
 pub no_line : {T E : Type 0} (takes : Takes T E) (lines : List Line) (b : BankState) (before : T)
     → RunsSoFar takes lines 0 b b before before (record { entries = 0; halted = false })
 no_line takes lines b before = record {
   history = [];
-  is = record { answers = refl; leads = λ a stands. leads_none b a stands; closed = λ race a stands closed. closed };
+  is = record { answers = refl; leads = λ a stands. leads_none b a stands; closed = λ race a stands closed. closed; reads = λ race. absurd (false_true race); goes = λ race a stands t fits. goes_none_by b a t fits };
   took = refl;
   entries = refl;
   halted = refl;
@@ -91,8 +129,9 @@ pub one_more : (lines : List Line) (n : ℕ) (line : Line) (old now new : BankSt
     → n < length lines → get_or lines n line ≡ line → AnswersWord line.word line.caller more
     → KeepsBank old now → IsHistoryOf false (take n lines) old now es
     → ((a : ArrayState) → Stands now a → Leads more now new a)
+    → ((a : ArrayState) → Stands now a → (t : Tally) → Fits t now → Goes (steps_as (waits_for line.word) more) now new a t)
     → IsHistoryOf false (take (suc n) lines) old new (es ++ more)
-one_more lines n line old now new es more below at answers keeps is leads = record {
+one_more lines n line old now new es more below at answers keeps is leads goes = record {
   answers =
       let all : AnswersRun (take n lines ++ line ∷ []) (es ++ more) =
       answers_more (take n lines) (line ∷ []) es more is.answers (answers_line line more answers) in
@@ -101,6 +140,13 @@ one_more lines n line old now new es more below at answers keeps is leads = reco
       let so = is.leads a first in
       leads_then es more old now new a keeps so (leads (after_all a es) so.stands);
   closed = λ race a stands closed. absurd (false_true race);
+  reads = λ race. absurd (false_true race);
+  goes = λ race a first t fits.
+      let so = is.goes refl a first t fits in
+      let led = is.leads a first in
+      subst (λ (ls : List Line). GoesBy ls (es ++ more) old new a t) (sym (take-suc lines n line below ∙ ap (λ (l : Line). take n lines ++ l ∷ []) at))
+      (goes_more (take n lines) line old now new es more a t answers keeps so
+      (goes (after_all a (entries_of so.steps)) (subst (λ (xs : List Entry). Stands now (after_all a xs)) (sym so.entries) led.stands) (tally_all old a t so.steps) so.goes.fits));
 }
 
 -- a line has one entry or two
@@ -113,7 +159,7 @@ few_entries (Erase b) caller (e ∷ f ∷ g ∷ es) answers = absurd answers
 few_entries EraseAllLine caller (e ∷ f ∷ g ∷ es) answers = absurd answers
 
 pub few_more : {T E : Type 0} (takes : Takes T E) (word : Word) (caller n m : ℕ) (old new : BankState) (before after : T) (ran now : Ran)
-    → RunsTo takes (AnswersWord word caller) ran old new before after (Ok now) → ran.entries ≤ 2 * n → m ≡ n + 1 → now.entries ≤ 2 * m
+    → RunsTo takes (waits_for word) (AnswersWord word caller) ran old new before after (Ok now) → ran.entries ≤ 2 * n → m ≡ n + 1 → now.entries ≤ 2 * m
 few_more takes word caller n m old new before after ran now runs so next =
     let few = few_entries word caller runs.entries runs.answers in
     let count : now.entries ≡ ran.entries + length runs.entries = ap (λ (r : Ran). r.entries) runs.gives.1 in
@@ -123,7 +169,7 @@ few_more takes word caller n m old new before after ran now runs so next =
 pub line_more : {T E : Type 0} (takes : Takes T E) (lines : List Line) (n : ℕ) (line : Line) (old now new : BankState) (before mid after : T) (ran next : Ran)
     → n < length lines → get_or lines n line ≡ line
     → KeepsBank old now → RunsSoFar takes lines n old now before mid ran
-    → RunsTo takes (AnswersWord line.word line.caller) ran now new mid after (Ok next)
+    → RunsTo takes (waits_for line.word) (AnswersWord line.word line.caller) ran now new mid after (Ok next)
     → RunsSoFar takes lines (n + 1) old new before after next
 line_more takes lines n line old now new before mid after ran next below at keeps so runs =
     let es = runs.entries in
@@ -131,7 +177,7 @@ line_more takes lines n line old now new before mid after ran next below at keep
     record {
       history = so.history ++ es;
       is = subst (λ (m : ℕ). IsHistoryOf false (take m lines) old new (so.history ++ es)) more
-          (one_more lines n line old now new so.history es below at runs.answers keeps so.is runs.leads);
+          (one_more lines n line old now new so.history es below at runs.answers keeps so.is runs.leads runs.goes);
       took = took_more takes so.history es ran.entries before mid after so.entries so.took runs.gives.0;
       entries = ap (λ (r : Ran). r.entries) runs.gives.1 ∙ (ap (λ (k : ℕ). k + length es) so.entries ∙ sym (length-append so.history es));
       halted = ap (λ (r : Ran). r.halted) runs.gives.1 ∙ (ap (λ (b : Bool). b || has_halt es) so.halted ∙ sym (halt_then so.history es));
@@ -141,7 +187,7 @@ line_more takes lines n line old now new before mid after ran next below at keep
 pub line_stopped : {T E : Type 0} (takes : Takes T E) (lines : List Line) (n : ℕ) (line : Line) (old now new : BankState) (before mid after : T) (ran : Ran) (stop : E)
     → n < length lines → get_or lines n line ≡ line
     → KeepsBank old now → RunsSoFar takes lines n old now before mid ran
-    → RunsTo takes (AnswersWord line.word line.caller) ran now new mid after (Err stop)
+    → RunsTo takes (waits_for line.word) (AnswersWord line.word line.caller) ran now new mid after (Err stop)
     → RunsPart takes false lines old new before after stop
 line_stopped takes lines n line old now new before mid after ran stop below at keeps so runs =
     let es = runs.entries in
@@ -152,7 +198,7 @@ line_stopped takes lines n line old now new before mid after ran stop below at k
       history = so.history ++ es;
       count = suc n;
       all = tt;
-      is = one_more lines n line old now new so.history es below at runs.answers keeps so.is runs.leads;
+      is = one_more lines n line old now new so.history es below at runs.answers keeps so.is runs.leads runs.goes;
       stops = record {
         taken = so.history ++ at_stop.taken;
         entry = at_stop.entry;

@@ -1,5 +1,5 @@
 -- From a bank that was started to the bank that was loaded.
-use Rattle.std.proofs.Common.{◌≡◌, ◌≢◌, ◌<◌, ◌≤◌, ◌*◌, ◌∙◌, inl, inr, ℕ, List, [], ◌∷◌, length, take, map, Bool, true, false, Some, None, Result, Ok, Err, refl, sym, ap, subst, arith}
+use Rattle.std.proofs.Common.{Option, ◌≡◌, ◌≢◌, ◌<◌, ◌≤◌, ◌*◌, ◌∙◌, inl, inr, ℕ, List, [], ◌∷◌, length, take, map, Bool, true, false, Some, None, Result, Ok, Err, refl, sym, ap, subst, arith}
 use Rattle.nor_io.specs.Files.{SinkState, Appends, AppendsPart}
 use Rattle.nor_io.specs.declared.sink.SinkError.{SinkError}
 use Rattle.nor_io.specs.declared.sink.SinkError.TheVariants.{Fault, NoMemory}
@@ -18,6 +18,8 @@ use Rattle.nor_probe.specs.declared.error.ProbeError.{ProbeError}
 use Rattle.nor_probe.specs.declared.error.ProbeError.TheVariants.{Off as LostPower}
 use Rattle.nor_probe.specs.Probed.{refusal, IsFoundOn}
 use Rattle.nor_probe.specs.declared.probing.Found.{Found}
+use Rattle.nor_array.specs.declared.state.ArmedCut.{ArmedCut}
+use Rattle.nor_history.specs.Histories.{words_read}
 use Rattle.nor_array.specs.Array.{ArrayState}
 use Rattle.nor_array.specs.After.{after_all}
 use Rattle.nor_array.specs.Legal.{Facts, Legal}
@@ -27,13 +29,17 @@ use Rattle.nor_script.specs.Report.{entry_lines, totals_text, report_text}
 use Rattle.nor_script.specs.declared.line.Line.{Line}
 use Rattle.nor_bank.specs.Calls.{facts_of}
 use Rattle.nor_bank.specs.Stands.{Stands, IsKnown, CanStart, opening_array, constants_of, under_of, kept_power, cut_of}
-use Rattle.nor_bank.specs.State.{BankState, size_of, bytes_of}
+use Rattle.nor_bank.specs.State.{BankState, word_bytes, size_of, bytes_of}
 use Rattle.nor_bank.proofs.Known.{known_parts, known_some}
 use Rattle.nor_image.specs.Image.{IsImageOf, device_of}
 use Rattle.nor_image.specs.Loaded.{bus_of, loaded_width}
 use Rattle.nor_image.specs.declared.loaded.Loaded.{Loaded}
 use Rattle.nor_image.specs.Written.{file_of, Stores}
 use Rattle.nor_cell.specs.Power.{powered}
+use Rattle.nor_bus.specs.declared.bus.Armed.{Armed}
+use Rattle.nor_history.specs.Bounds.{no_tally, Bounded, Fits, FitsArmed}
+use Rattle.nor_history.proofs.Bounded.{bounded_last}
+use Rattle.nor_run.specs.Steps.{GoesBy, StaysWithin}
 use Rattle.nor_history.specs.Histories.{Leads, opened, risen}
 use Rattle.nor_bank.specs.Work.{KeepsBank}
 use Rattle.nor_run.specs.Running.{IsCount, IsHistoryOf, RunsWhole, RunsPart, RunsLines, EndsLines, ReportsWhole, ReportsPart, ReportsLines, counters_of}
@@ -164,8 +170,10 @@ holds_array b new a keeps stands = record {
 }
 
 runs_legally : (race : Bool) (width : ℕ) (bus : BusState) (b new : BankState) (es : List Entry) → IsStarted width bus b
-    → KeepsBank b new → (race ≡ true → new.erase ≡ None) → Leads es b new (opening_array b) → RunsLegally race bus new.bus b.found es
-runs_legally race width bus b new es is keeps closed leads =
+    → KeepsBank b new → (race ≡ true → new.erase ≡ None)
+    → (race ≡ true → (cut : ArmedCut) → (after_all (opening_array b) es).armed ≡ Some cut → words_read (word_bytes b.found) es ≤ cut.after)
+    → Leads es b new (opening_array b) → RunsLegally race bus new.bus b.found es
+runs_legally race width bus b new es is keeps closed reads leads =
     let open_ = opens width bus b is in
     record {
       legal = subst (λ (f : Facts). Legal f (opening_of b.found bus) es) (same_facts width bus b is)
@@ -179,9 +187,26 @@ runs_legally race width bus b new es is keeps closed leads =
           (leads.erases c (subst (λ (chips : List ChipState). c < length chips) (sym is.lanes) below));
       closed = λ raced.
           subst (λ (a : ArrayState). (after_all a es).under ≡ None) open_ (leads.stands.under ∙ ap under_of (closed raced));
+      reads = λ raced cut armed. reads raced cut (subst (λ (a : ArrayState). (after_all a es).armed ≡ Some cut) (sym open_) armed);
     }
 
-is_run : (race : Bool) (width : ℕ) (bus : BusState) (lines : List Line) (b new : BankState) (es : List Entry) → Starts width bus b
+-- the bounds, from a bank that was just started
+stays_within : (width : ℕ) (bus : BusState) (lines : List Line) (b new : BankState) (es : List Entry) → IsStarted width bus b → KeepsLanes bus b.bus
+    → GoesBy lines es b new (opening_array b) no_tally → StaysWithin lines es (started b.found bus) (opening_of b.found bus)
+stays_within width bus lines b new es is kept so = record {
+  steps = so.steps;
+  entries = so.entries;
+  of = so.of;
+  bounded =
+      bounded_last (started b.found bus) b (opening_of b.found bus) no_tally so.steps (record { found = refl; lanes = kept })
+      (subst (λ (a : ArrayState). Bounded b a no_tally so.steps) (opens width bus b is) so.goes.bounded);
+}
+
+-- of which nothing was counted
+fits_none : (b : BankState) → b.bus.armed ≡ None → Fits no_tally b
+fits_none b unarmed = record { opened = tt; armed = subst (λ (x : Option Armed). FitsArmed None b.after x) (sym unarmed) tt }
+
+pub is_run : (race : Bool) (width : ℕ) (bus : BusState) (lines : List Line) (b new : BankState) (es : List Entry) → Starts width bus b
     → KeepsBank b new → IsHistoryOf race lines b new es → IsRunOf race width lines bus new.bus es
 is_run race width bus lines b new es starts keeps history = record {
   found = b.found;
@@ -190,7 +215,11 @@ is_run race width bus lines b new es starts keeps history = record {
   kept = keeps_then bus b.bus new.bus starts.kept keeps.lanes;
   legal = λ qry.
       let is = starts.started qry in
-      runs_legally race width bus b new es is keeps (λ raced. history.closed raced (opening_array b) is.stands starts.closed) (history.leads (opening_array b) is.stands);
+      runs_legally race width bus b new es is keeps (λ raced. history.closed raced (opening_array b) is.stands starts.closed)
+      (λ raced. history.reads raced (opening_array b) is.stands) (history.leads (opening_array b) is.stands);
+  bounds = λ alone qry.
+      let is = starts.started qry in
+      stays_within width bus lines b new es is starts.kept (history.goes alone (opening_array b) is.stands no_tally (fits_none b is.unarmed));
 }
 
 -- ---- what was put

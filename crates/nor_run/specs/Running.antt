@@ -1,7 +1,9 @@
 -- What running the lines of a script makes of a bank.
 use Rattle.std.specs.Prelude.{◌≡◌, ◌≢◌, ◌≤◌, ◌⊎◌, ◌+◌, ◌++◌, ◌∷◌, ◌||◌, ℕ, List, [], length, take, map, Bool, true, false, Some, None, Result, Ok, Err}
 use Rattle.nor_cell.specs.Chip.{ChipState}
+use Rattle.nor_array.specs.After.{after_all}
 use Rattle.nor_array.specs.Array.{ArrayState}
+use Rattle.nor_array.specs.declared.state.ArmedCut.{ArmedCut}
 use Rattle.nor_array.specs.declared.entry.Entry.{Entry}
 use Rattle.nor_array.specs.declared.entry.Op.{Op}
 use Rattle.nor_array.specs.declared.entry.Op.TheVariants.{Read, Poll}
@@ -14,11 +16,14 @@ use Rattle.nor_script.specs.Answering.{Answers, NotOpened, OpenedAndClosed}
 use Rattle.nor_script.specs.Report.{entry_lines, report_text}
 use Rattle.nor_script.specs.declared.line.Line.{Line}
 use Rattle.nor_bank.specs.Calls.{entry_of}
-use Rattle.nor_history.specs.Histories.{Makes, Leads}
-use Rattle.nor_bank.specs.Stands.{Stands}
-use Rattle.nor_bank.specs.State.{BankState}
+use Rattle.nor_history.specs.Bounds.{polls_most, steps_as, ReadsWords, Tally, Fits, Goes}
+use Rattle.nor_history.specs.Histories.{Makes, Leads, words_read}
+use Rattle.nor_bus.specs.Driven.{Nearer}
+use Rattle.nor_bank.specs.Stands.{Stands, under_of}
+use Rattle.nor_bank.specs.State.{BankState, word_bytes}
 use Rattle.nor_bank.specs.Work.{KeepsBank}
 use Rattle.nor_bank.specs.declared.kept.Erasing.{Erasing}
+use Rattle.nor_run.specs.Steps.{GoesBy}
 use Rattle.nor_run.specs.Taking.{told, Takes, TakesAll, StopsIn, PutsEntry}
 use Rattle.nor_run.specs.declared.error.RunError.{RunError}
 use Rattle.nor_run.specs.declared.error.RunError.TheVariants.{Probe, NoMemory as Memory, Put}
@@ -60,6 +65,7 @@ pub record RunsCall {T E : Type 0} (takes : Takes T E) (caller : ℕ) (op : Op) 
   pub reply : Reply
   pub given : List ℕ
   pub makes : Makes caller op old new reply given
+  pub reads : ReadsWords op reply old new
   pub hands : HandsOn takes ran (entry_of old new caller op reply given) before after result
 
 -- the call gives bytes
@@ -76,11 +82,13 @@ pub record IsPolled (caller : ℕ) (b : BankState) : Type 0 where
   pub own : erase.caller ≡ caller
 
 -- It was polled until it ended, or the bank halted. The polls that had to wait make no entry, and change nothing of an
--- array for which the bank stood.
+-- array for which the bank stood; together they asked for no more cycles than the limit of the erase allows.
 pub record PollsOn (caller : ℕ) (old new : BankState) (reply : Reply) : Type 0 where
   pub mid : BankState
   pub keeps : KeepsBank old mid
   pub waits : (a : ArrayState) → Stands old a → Leads [] old mid a
+  pub after : mid.after ≡ old.after
+  pub near : Nearer 0 (polls_most old (under_of old.erase)) old.bus.armed mid.bus.armed
   pub last : Makes caller Poll mid new reply []
   pub ended : reply ≢ NotYet
 
@@ -91,23 +99,28 @@ AnswersErase caller op (e ∷ []) = NotOpened caller op e
 AnswersErase caller op (e ∷ close ∷ []) = OpenedAndClosed caller op e close
 AnswersErase caller op (e ∷ close ∷ more ∷ entries) = ⊥
 
--- Entries were made that answer what was asked for, they lead from each array for which the bank stood, and they were
--- handed over.
-pub record RunsTo {T E : Type 0} (takes : Takes T E) (Asked : List Entry → Type 0) (ran : Ran) (old new : BankState)
-    (before after : T) (result : Result Ran E) : Type 0 where
+-- Entries were made that answer what was asked for, they lead from each array for which the bank stood and keep the
+-- bounds, and they were handed over.
+pub record RunsTo {T E : Type 0} (takes : Takes T E) (waits : Bool) (Asked : List Entry → Type 0) (ran : Ran)
+    (old new : BankState) (before after : T) (result : Result Ran E) : Type 0 where
   pub entries : List Entry
   pub answers : Asked entries
   pub leads : (a : ArrayState) → Stands old a → Leads entries old new a
+  pub goes : (a : ArrayState) → Stands old a → (t : Tally) → Fits t old → Goes (steps_as waits entries) old new a t
   pub gives : Gives takes ran entries before after result
 
 -- ---- all lines
 
 -- The entries answer the lines, run by one thread or raced, and lead from each array for which the bank stood. A race
--- leaves nothing under erase.
+-- leaves nothing under erase, and reads no more bus words than the cut that is armed was armed with: its cuts come first.
+-- What one thread runs keeps the bounds.
 pub record IsHistoryOf (race : Bool) (lines : List Line) (old new : BankState) (es : List Entry) : Type 0 where
   pub answers : Answers race lines es
   pub leads : (a : ArrayState) → Stands old a → Leads es old new a
   pub closed : race ≡ true → (a : ArrayState) → Stands old a → old.erase ≡ None → new.erase ≡ None
+  pub reads : race ≡ true → (a : ArrayState) → Stands old a → (cut : ArmedCut) → (after_all a es).armed ≡ Some cut
+      → words_read (word_bytes old.found) es ≤ cut.after
+  pub goes : race ≡ false → (a : ArrayState) → Stands old a → (t : Tally) → Fits t old → GoesBy lines es old new a t
 
 -- All lines were run, and the taker took the history.
 pub record RunsWhole {T E : Type 0} (takes : Takes T E) (race : Bool) (lines : List Line) (old new : BankState)

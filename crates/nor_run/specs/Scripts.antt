@@ -1,5 +1,5 @@
 -- What running a script on a bank that was just loaded makes.
-use Rattle.std.specs.Prelude.{◌≡◌, ◌≢◌, ◌<◌, ℕ, List, length, map, take, Result, Ok, Err, slice_index, Bool, true, false, Some, None}
+use Rattle.std.specs.Prelude.{◌≡◌, ◌≢◌, ◌<◌, ◌≤◌, ℕ, List, length, map, take, Result, Ok, Err, slice_index, Bool, true, false, Some, None}
 use Rattle.nor_cell.specs.Between.{IsQuiet}
 use Rattle.nor_cell.specs.Chip.{ChipState}
 use Rattle.nor_cell.specs.Power.{powered, locks_after}
@@ -16,6 +16,7 @@ use Rattle.nor_array.specs.Array.{ArrayState, opening}
 use Rattle.nor_array.specs.After.{after_all}
 use Rattle.nor_array.specs.Legal.{Legal}
 use Rattle.nor_array.specs.declared.entry.Entry.{Entry}
+use Rattle.nor_array.specs.declared.state.ArmedCut.{ArmedCut}
 use Rattle.nor_array.specs.Entries.{has_halt}
 use Rattle.nor_script.specs.Answering.{Answers}
 use Rattle.nor_script.specs.Report.{report_text}
@@ -23,15 +24,16 @@ use Rattle.nor_script.specs.declared.line.Line.{Line}
 use Rattle.nor_io.specs.Files.{SinkState, Rose, Appends, AppendsPart}
 use Rattle.nor_io.specs.declared.sink.SinkError.TheVariants.{Fault, NoMemory}
 use Rattle.nor_bank.specs.Calls.{facts_of}
-use Rattle.nor_history.specs.Histories.{opened, risen}
+use Rattle.nor_history.specs.Histories.{opened, risen, words_read}
 use Rattle.nor_bank.specs.Stands.{Stands, constants_of, is_under}
-use Rattle.nor_bank.specs.State.{BankState}
+use Rattle.nor_bank.specs.State.{BankState, word_bytes}
 use Rattle.nor_image.specs.Image.{IsImageOf, device_of}
 use Rattle.nor_image.specs.Loaded.{bus_of, loaded_width, IsFreshBus}
 use Rattle.nor_image.specs.Written.{file_of, AreStorable, AgreeOnLocks}
 use Rattle.nor_image.specs.declared.loaded.Loaded.{Loaded}
 use Rattle.nor_run.specs.declared.error.RunError.{RunError}
 use Rattle.nor_run.specs.declared.error.RunError.TheVariants.{Probe, NoMemory as Memory, Put}
+use Rattle.nor_run.specs.Steps.{StaysWithin}
 use Rattle.nor_run.specs.Running.{counters_of, IsCount, IsDue, Untouched}
 use Rattle.nor_run.specs.declared.lines.Ran.{Ran}
 
@@ -66,22 +68,27 @@ pub record StandsOn (found : Found) (bus : BusState) (a : ArrayState) : Type 0 w
 
 -- The entries are a legal history from the opening array, and led the bus from old to new, which stands for the array
 -- after them: it holds the bytes and the locks of that array. Each lane counts the erases that were opened. A race leaves
--- nothing under erase.
+-- nothing under erase, and while a cut is armed it reads no more bus words than the cut was armed with: the cuts of a
+-- race come first.
 pub record RunsLegally (race : Bool) (old new : BusState) (found : Found) (es : List Entry) : Type 0 where
   pub legal : Legal (facts_of (started found old)) (opening_of found old) es
   pub stands : StandsOn found new (after_all (opening_of found old) es)
   pub holds : HoldsArray found new (after_all (opening_of found old) es)
   pub erases : EachLane (λ s t. t.erases ≡ risen s.erases (opened es)) old new
   pub closed : race ≡ true → (after_all (opening_of found old) es).under ≡ None
+  pub reads : race ≡ true → (cut : ArmedCut) → (after_all (opening_of found old) es).armed ≡ Some cut
+      → words_read (word_bytes found) es ≤ cut.after
 
 -- The entries answer the lines, and each chip stays what it is. Where the chips' tables begin with `QRY`, the entries
--- are a legal history.
+-- are a legal history, and those that one thread made keep the bounds on work, waiting, and a cut.
 pub record IsRunOf (race : Bool) (width : ℕ) (lines : List Line) (old new : BusState) (es : List Entry) : Type 0 where
   pub found : Found
   pub is_found : IsFoundOn width old.lanes found
   pub answers : Answers race lines es
   pub kept : KeepsLanes old new
   pub legal : AllLanes HasLetters old → RunsLegally race old new found es
+  pub bounds : race ≡ false → AllLanes HasLetters old
+      → StaysWithin lines es (started found old) (opening_of found old)
 
 -- All lines were run so, and the report of the entries was put.
 pub record RunsScript (race : Bool) (width : ℕ) (lines : List Line) (old new : BusState)

@@ -8,6 +8,7 @@ ghost use Rattle.nor_script.specs.Script.{HasCaller, IsScript};
 ghost use Rattle.nor_history.specs.Histories.{Makes};
 ghost use Rattle.nor_bank.specs.Work.{KeepsBank};
 ghost use Rattle.nor_run.specs.Running.{HandsOn, RunsCall, RunsTo, AnswersErase, IsPolled, PollsOn, RunsWhole, RunsPart, is_read};
+ghost use Rattle.nor_run.specs.Steps.{waits_for};
 
 use crate::taker::Taker;
 use nor_array::{Op, Reply};
@@ -177,7 +178,7 @@ fn run_erase<W: BusWord, B: Bus<W>, T: Taker>(
 ) -> Result<Ran, T::Stop>
     requires opens { (needs_of op.now).opens ≡ true }
     requires few { ran.entries + 2 < 2 ^ 64 }
-    ensures runs { RunsTo T.takes (AnswersErase caller op.now) ran bank.old bank.new
+    ensures runs { RunsTo T.takes true (AnswersErase caller op.now) ran bank.old bank.new
         taker.old taker.new result }
     ensures keeps { KeepsBank bank.old bank.new }
 {
@@ -202,7 +203,8 @@ fn run_line<W: BusWord, B: Bus<W>, T: Taker>(
 ) -> Result<Ran, T::Stop>
     requires caller { HasCaller line.now.word line.now.caller }
     requires few { ran.entries + 2 < 2 ^ 64 }
-    ensures runs { RunsTo T.takes (AnswersWord line.now.word line.now.caller) ran
+    ensures runs { RunsTo T.takes (waits_for line.now.word)
+        (AnswersWord line.now.word line.now.caller) ran
         bank.old bank.new taker.old taker.new result }
     ensures keeps { KeepsBank bank.old bank.new }
 {

@@ -3,21 +3,21 @@ use Rattle.std.proofs.Common.{◌≡◌, ◌≢◌, ◌≤◌, ◌∙◌, ◌⊎
 use Rattle.nor_io.specs.Files.{ShelfState, SinkState, FileMap, Rose}
 use Rattle.nor_io.proofs.Putting.{rose_later}
 use Rattle.norbank.specs.AsAsked.{IsScript, IsDone, EndsAsAsked}
-use Rattle.norbank.specs.Does.{IsFound, Names, FailsRead, IsWant, Works, Does, Answers, Ends, NamesFile}
+use Rattle.norbank.specs.Does.{IsFound, Names, FailsRead, IsWant, Works, Does, Answers, Ends, NamesFile, MayWant}
 use Rattle.norbank.specs.Done.{RanImage, IsRun}
 use Rattle.norbank.specs.Endings.{Says, Tells, TakesMemory, status_of, text_of, done_status}
 use Rattle.norbank.specs.Stops.{stops_of, stop_of, bytes_in}
-use Rattle.norbank.specs.Text.{usage, not_built}
+use Rattle.norbank.specs.Text.{usage}
 use Rattle.norbank.specs.Words.{Asked, Read, Show, Script, Drill, Unknown, name_of, quietly}
 use Rattle.norbank.specs.declared.stop.Done.{Done}
 use Rattle.norbank.specs.declared.stop.Done.TheVariants.{All, Halted}
 use Rattle.norbank.specs.declared.stop.File.TheVariants.{Bank, Script as ScriptFile}
 use Rattle.norbank.specs.declared.stop.Stop.{Stop}
-use Rattle.norbank.specs.declared.stop.Stop.TheVariants.{Usage, NotBuilt}
+use Rattle.norbank.specs.declared.stop.Stop.TheVariants.{Usage}
 use Rattle.norbank.proofs.Stopping.{none_first}
 use Rattle.norbank.proofs.Statuses.{IsPlain, first_plain, all_plain, done_run, not_either}
 use Rattle.norbank.proofs.Mishaps.{Mishap, read_mishap, works_mishap, tells_cases, tells_never_run}
-use Rattle.norbank.proofs.WasDone.{printed_by, shown_by, ran_by, halt_caused, halts}
+use Rattle.norbank.proofs.WasDone.{printed_by, shown_by, drilled_by, ran_by, halt_caused, halts}
 use Rattle.norbank.proofs.Parts.{part_by}
 
 -- ---- all was done
@@ -47,15 +47,15 @@ done_as command other was now before after status is ends run =
 -- ---- words that name no file
 
 by_words : (command : Asked) (was now : ShelfState) (before mid after : SinkState) (status : ℕ) (result : Result Done Stop) (wanted : Stop)
-    → ((bank script : Option (List ℕ)) → stop_of command bank script ≡ Some wanted) → (NamesFile command → ⊥) → (TakesMemory wanted → ⊥)
+    → ((bank script : Option (List ℕ)) → stop_of command bank script ≡ Some wanted) → (NamesFile command → ⊥) → (MayWant command → ⊥) → (TakesMemory wanted → ⊥)
     → Does command was now before mid result → Tells command result mid after status
     → Says (status_of wanted) (text_of command wanted) before after status
-by_words command was now before mid after status (Ok done) wanted first none small (inl stops) tells = absurd stops
-by_words command was now before mid after status (Ok done) wanted first none small (inr works) tells =
+by_words command was now before mid after status (Ok done) wanted first none full small (inl stops) tells = absurd stops
+by_words command was now before mid after status (Ok done) wanted first none full small (inr works) tells =
     absurd (let x = sym (first works.names.bank works.names.script) ∙ works.free in cc)
-by_words command was now before mid after status (Err stop) wanted first none small (inr works) tells =
+by_words command was now before mid after status (Err stop) wanted first none full small (inr works) tells =
     absurd (let x = sym (first works.names.bank works.names.script) ∙ works.free in cc)
-by_words command was now before mid after status (Err stop) wanted first none small (inl stops) tells = by stops.cause
+by_words command was now before mid after status (Err stop) wanted first none full small (inl stops) tells = by stops.cause
   where
     told : stop ≡ wanted → Tells command (Err stop) mid after status → Says (status_of wanted) (text_of command wanted) before after status
     told same (inl says) =
@@ -63,10 +63,11 @@ by_words command was now before mid after status (Err stop) wanted first none sm
         (subst (λ (t : Stop). Says (status_of t) (text_of command t) mid after status) same says)
     told same (inr lacks) = absurd (small (subst TakesMemory same lacks.0))
 
-    by : (stop_of command stops.names.bank stops.names.script ≡ Some stop) ⊎ (NamesFile command × (FailsRead stops.names.bank was now stop ⊎ IsWant command stop))
+    by : (stop_of command stops.names.bank stops.names.script ≡ Some stop) ⊎ ((NamesFile command × FailsRead stops.names.bank was now stop) ⊎ (MayWant command × IsWant command stop))
         → Says (status_of wanted) (text_of command wanted) before after status
     by (inl is) = told (let x = sym is ∙ first stops.names.bank stops.names.script in cc) tells
-    by (inr mishap) = absurd (none mishap.0)
+    by (inr (inl fails)) = absurd (none fails.0)
+    by (inr (inr want)) = absurd (full want.0)
 
 -- ---- what can be done
 
@@ -107,11 +108,11 @@ complete_by command was now before mid after status (Err stop) first last free (
     (works_mishap command (bytes_in works.names.bank) (bytes_in works.names.script) was now before mid stop works.answers).0 tells
 complete_by command was now before mid after status (Err stop) first last free (inl stops) tells = by stops.cause
   where
-    by : (stop_of command stops.names.bank stops.names.script ≡ Some stop) ⊎ (NamesFile command × (FailsRead stops.names.bank was now stop ⊎ IsWant command stop))
+    by : (stop_of command stops.names.bank stops.names.script ≡ Some stop) ⊎ ((NamesFile command × FailsRead stops.names.bank was now stop) ⊎ (MayWant command × IsWant command stop))
         → IsDone command was now before after status
     by (inl is) = absurd (let x = sym (free stops.names) ∙ is in cc)
-    by (inr (file, inl fails)) = mishap_done command was now before mid after status stop first last (read_mishap stops.names.bank was now before mid stop fails) tells
-    by (inr (file, inr want)) = mishap_done command was now before mid after status stop first last (inr want.status) tells
+    by (inr (inl (file, fails))) = mishap_done command was now before mid after status stop first last (read_mishap stops.names.bank was now before mid stop fails) tells
+    by (inr (inr (takes, want))) = mishap_done command was now before mid after status stop first last (inr want.status) tells
 
 -- ---- status 7
 
@@ -139,12 +140,12 @@ fault_by command was now before mid after status (Err stop) first last does tell
     of_told plain (inr (inl fault)) = inr (rose_later before.faults mid.faults after.faults first fault.1)
     of_told plain (inr (inr nine)) = absurd (omega arith)
 
-    by_cause : (bank script : Option (List ℕ)) → (stop_of command bank script ≡ Some stop) ⊎ (NamesFile command × (FailsRead bank was now stop ⊎ IsWant command stop))
+    by_cause : (bank script : Option (List ℕ)) → (stop_of command bank script ≡ Some stop) ⊎ ((NamesFile command × FailsRead bank was now stop) ⊎ (MayWant command × IsWant command stop))
         → Rose was.faults now.faults ⊎ Rose before.faults after.faults
     by_cause bank script (inl is) =
         of_told (subst IsPlain is (first_plain (stops_of command bank script) (all_plain command bank script))) (tells_cases command stop mid after status tells)
-    by_cause bank script (inr (file, inl fails)) = of_mishap (read_mishap bank was now before mid stop fails)
-    by_cause bank script (inr (file, inr want)) = of_mishap (inr want.status)
+    by_cause bank script (inr (inl (file, fails))) = of_mishap (read_mishap bank was now before mid stop fails)
+    by_cause bank script (inr (inr (takes, want))) = of_mishap (inr want.status)
 
     by : Does command was now before mid (Err stop) → Rose was.faults now.faults ⊎ Rose before.faults after.faults
     by (inl stops) = by_cause stops.names.bank stops.names.script stops.cause
@@ -167,7 +168,7 @@ answers_kept : (command : Asked) (file text : List ℕ) (was now : ShelfState) (
 answers_kept (Read name at len) file text was now before after result quiet answers = answers.kept
 answers_kept (Show name) file text was now before after result quiet answers = let prints = answers.2 in prints.kept
 answers_kept (Script race name script_name) file text was now before after result quiet answers = absurd (quiet tt)
-answers_kept Drill file text was now before after result quiet answers = absurd answers
+answers_kept (Drill n) file text was now before after result quiet answers = let prints = answers.2 in prints.kept
 answers_kept Unknown file text was now before after result quiet answers = absurd answers
 
 same_by : (command : Asked) (was now : ShelfState) (before mid : SinkState) (result : Result Done Stop) → Does command was now before mid result → (IsScript command → ⊥) → now.files ≡ was.files
@@ -180,11 +181,7 @@ same_by command was now before mid result (inr works) quiet =
 
 usage_of : (was now : ShelfState) (before after : SinkState) (status : ℕ) → Ends Unknown was now before after status → Says 2 usage before after status
 usage_of was now before after status ends =
-    by_words Unknown was now before ends.mid after status ends.result Usage (λ bank script. refl) (λ x. x) (λ x. x) ends.does ends.tells
-
-unbuilt_of : (was now : ShelfState) (before after : SinkState) (status : ℕ) → Ends Drill was now before after status → Says 11 not_built before after status
-unbuilt_of was now before after status ends =
-    by_words Drill was now before ends.mid after status ends.result NotBuilt (λ bank script. refl) (λ x. x) (λ x. x) ends.does ends.tells
+    by_words Unknown was now before ends.mid after status ends.result Usage (λ bank script. refl) (λ x. x) (λ x. x) (λ x. x) ends.does ends.tells
 
 -- a script was run
 ran_as : (command : Asked) (race : Bool) (image name : List ℕ) (was now : ShelfState) (before after : SinkState) (status : ℕ) → command ≡ Script race image name
@@ -199,7 +196,6 @@ pub as_asked : (command : Asked) (was now : ShelfState) (before after : SinkStat
 as_asked command was now before after status ends = record {
   ends = ends;
   usage = λ is. usage_of was now before after status (subst (λ (c : Asked). Ends c was now before after status) is ends);
-  unbuilt = λ is. unbuilt_of was now before after status (subst (λ (c : Asked). Ends c was now before after status) is ends);
   printed = λ image at len is zero.
       let so = done_as command (Read image at len) was now before after status is ends (inl zero) in
       let names = so.works.names in
@@ -210,6 +206,9 @@ as_asked command was now before after status ends = record {
       let names = so.works.names in
       shown_by image was now before after so.done names.bank names.script names.is_bank
       (none_first (stops_of (Show image) names.bank names.script) so.works.free) so.works.answers;
+  drilled = λ n is zero.
+      let so = done_as command (Drill n) was now before after status is ends (inl zero) in
+      drilled_by n (bytes_in so.works.names.bank) (bytes_in so.works.names.script) was now before after so.done so.works.answers;
   ran = λ race image name is run. ran_as command race image name was now before after status is ends run;
   halted = λ race image name is six.
       halt_caused race image name was now before after status (ran_as command race image name was now before after status is ends (inr six)) six;
@@ -236,10 +235,11 @@ usage_tells command was now before mid after status (Err stop) (inl stops) tells
     as_usage other same told =
         subst (λ (t : Stop). Tells Unknown (Err t) mid after status) (sym same) (subst (λ (t : Stop). Tells command (Err t) mid after status) same told)
 
-    by : (stop_of Unknown stops.names.bank stops.names.script ≡ Some stop) ⊎ (NamesFile Unknown × (FailsRead stops.names.bank was now stop ⊎ IsWant Unknown stop))
+    by : (stop_of Unknown stops.names.bank stops.names.script ≡ Some stop) ⊎ ((NamesFile Unknown × FailsRead stops.names.bank was now stop) ⊎ (MayWant Unknown × IsWant Unknown stop))
         → Tells Unknown (Err stop) mid after status
     by (inl is) = as_usage stop (let x : Some Usage ≡ Some stop = is in cc) tells
-    by (inr mishap) = absurd mishap.0
+    by (inr (inl fails)) = absurd fails.0
+    by (inr (inr want)) = absurd want.0
 
 quiet_tells : (command : Asked) (was now : ShelfState) (before mid after : SinkState) (status : ℕ) (result : Result Done Stop) → Does (quietly command) was now before mid result
     → Tells command result mid after status → Tells (quietly command) result mid after status
@@ -248,7 +248,7 @@ quiet_tells (Show name) was now before mid after status result does tells = tell
 quiet_tells (Script true name script_name) was now before mid after status result does tells =
     usage_tells (Script true name script_name) was now before mid after status result does tells
 quiet_tells (Script false name script_name) was now before mid after status result does tells = tells
-quiet_tells Drill was now before mid after status result does tells = tells
+quiet_tells (Drill n) was now before mid after status result does tells = tells
 quiet_tells Unknown was now before mid after status result does tells = tells
 
 pub quiet_ends : (asks command : Asked) (was now : ShelfState) (before mid after : SinkState) (status : ℕ) (result : Result Done Stop) → asks ≡ command

@@ -3,6 +3,9 @@ use Rattle.std.proofs.Common.{◌≡◌, ◌≤◌, ◌^◌, ◌∙◌, ◌⊎�
 use Rattle.std.specs.Result.{IsErrAnd}
 use Rattle.nor_cell.specs.Chip.{ChipState}
 use Rattle.nor_bus.specs.Bus.{BusState}
+use Rattle.nor_drill.specs.Drilled.{Summarizes, Drills}
+use Rattle.nor_drill.specs.declared.drilled.DrillError.{DrillError}
+use Rattle.nor_drill.specs.declared.drilled.DrillError.TheVariants.{NoMemory as NoDrillMemory, Put as PutSummary}
 use Rattle.nor_image.specs.Image.{width_of, device_of}
 use Rattle.nor_image.specs.Loaded.{bus_of, loaded_width}
 use Rattle.nor_image.specs.declared.loaded.Loaded.{Loaded}
@@ -16,11 +19,11 @@ use Rattle.nor_run.specs.Scripts.{IsRunnable, EndsRun, ReportsImage, RunsImage, 
 use Rattle.nor_run.specs.declared.error.RunError.{RunError}
 use Rattle.nor_run.specs.declared.error.RunError.TheVariants.{Probe, NoMemory as NoRunMemory, Put}
 use Rattle.nor_script.specs.Script.{script_of}
-use Rattle.norbank.specs.Does.{IsFound, Names, FailsRead, IsWant, Stops, Does, RunsWhole, RunsPart, IsCaused, Saved, fresh_bus}
-use Rattle.norbank.specs.Endings.{run_failure}
+use Rattle.norbank.specs.Does.{IsFound, Names, FailsRead, IsWant, Stops, Does, RunsWhole, RunsPart, IsCaused, Saved, fresh_bus, of_put}
+use Rattle.norbank.specs.Endings.{run_failure, drill_failure}
 use Rattle.norbank.specs.Opened.{IsOpened, FailsOpen, ReadEnds, ReadsBank, ShowEnds, ShowsBank, IsJob, FailsJob, IsRunWhole, RunsJob, opening_stops}
 use Rattle.norbank.specs.Stops.{file_stop, image_stop, text_stop, probe_stop, range_stop, first_some, stops_of, stop_of, chips_of_file, bytes_in}
-use Rattle.norbank.specs.Words.{Asked, Read, Show, Script, name_of, quietly}
+use Rattle.norbank.specs.Words.{Asked, Read, Show, Script, Drill, name_of, quietly}
 use Rattle.norbank.specs.declared.jobs.Job.{Job}
 use Rattle.norbank.specs.declared.stop.Done.{Done}
 use Rattle.norbank.specs.declared.stop.File.TheVariants.{Bank, Script as ScriptFile}
@@ -62,6 +65,31 @@ pub does_quietly : (asks command : Asked) (was now : ShelfState) (before after :
 does_quietly asks command was now before after result is quiet does =
     subst (λ (a : Asked). Does a was now before after result) (ap quietly is ∙ (quiet ∙ sym is)) does
 
+-- ---- a drill
+
+drill_names : (n : ℕ) (shelf : ShelfState) → Names (Drill n) shelf.files
+drill_names n shelf =
+    let none = found_any shelf.files [] in
+    record { bank = none.0; is_bank = none.1; script = none.0; is_script = none.1 }
+
+pub drill_put : (n : ℕ) (shelf : ShelfState) (before after : SinkState) (result : Result Done Stop) (put : Result (Unit {0}) SinkError) → result ≡ of_put put
+    → Summarizes n before after put → Does (Drill n) shelf shelf before after result
+drill_put n shelf before after result put is sums = inr (record {
+  names = drill_names n shelf;
+  free = refl;
+  answers = (sums.text, sums.summary, record { put = put; puts = sums.puts; is = is; kept = refl });
+})
+
+pub drill_fails : (n : ℕ) (shelf : ShelfState) (before after : SinkState) (result : Result Done Stop) (error : DrillError) → result ≡ Err (drill_failure error)
+    → Drills n before after (Err error) → Does (Drill n) shelf shelf before after result
+drill_fails n shelf before after result NoDrillMemory is drills = does_as (Drill n) shelf shelf before after result NoMemory is (record {
+  names = drill_names n shelf;
+  cause = inr (inr (tt, no_memory_is (Drill n) NoMemory refl));
+  kept = refl;
+  silent = drills;
+})
+drill_fails n shelf before after result (PutSummary error) is drills = drill_put n shelf before after result (Err error) is drills
+
 -- ---- a bank that wasn't opened
 
 pub unread : (name : List ℕ) (at len : ℕ) (was now : ShelfState) (out : SinkState) (stop : Stop) → now.files ≡ was.files → FailsOpen name was now stop
@@ -74,12 +102,12 @@ unread name at len was now out stop kept fails = record {
 }
   where
     by : (script : Option (List ℕ)) → (first_some (opening_stops fails.found) ≡ Some stop) ⊎ (((stop ≡ ReadFault Bank) × Rose was.faults now.faults) ⊎ ((command : Asked) → IsWant command stop))
-        → (stop_of (Read name at len) fails.found script ≡ Some stop) ⊎ (Unit {0} × (FailsRead fails.found was now stop ⊎ IsWant (Read name at len) stop))
+        → (stop_of (Read name at len) fails.found script ≡ Some stop) ⊎ ((Unit {0} × FailsRead fails.found was now stop) ⊎ (Unit {0} × IsWant (Read name at len) stop))
     by script (inl first) = inl (stops_at (stops_of (Read name at len) fails.found script) stop
         (sooner (opening_stops fails.found) (probe_stop (width_of (bytes_in fails.found)) (chips_of_file (bytes_in fails.found)) ∷ range_stop (chips_of_file (bytes_in fails.found)) at len ∷ []) stop
         (first_at (opening_stops fails.found) stop first)))
-    by script (inr (inl fault)) = inr (tt, inl (inl fault.0, fault.1))
-    by script (inr (inr want)) = inr (tt, inr (want (Read name at len)))
+    by script (inr (inl fault)) = inr (inl (tt, (inl fault.0, fault.1)))
+    by script (inr (inr want)) = inr (inr (tt, want (Read name at len)))
 
 pub unshown : (name : List ℕ) (was now : ShelfState) (out : SinkState) (stop : Stop) → now.files ≡ was.files → FailsOpen name was now stop
     → Stops (Show name) was now out out stop
@@ -91,12 +119,12 @@ unshown name was now out stop kept fails = record {
 }
   where
     by : (script : Option (List ℕ)) → (first_some (opening_stops fails.found) ≡ Some stop) ⊎ (((stop ≡ ReadFault Bank) × Rose was.faults now.faults) ⊎ ((command : Asked) → IsWant command stop))
-        → (stop_of (Show name) fails.found script ≡ Some stop) ⊎ (Unit {0} × (FailsRead fails.found was now stop ⊎ IsWant (Show name) stop))
+        → (stop_of (Show name) fails.found script ≡ Some stop) ⊎ ((Unit {0} × FailsRead fails.found was now stop) ⊎ (Unit {0} × IsWant (Show name) stop))
     by script (inl first) = inl (stops_at (stops_of (Show name) fails.found script) stop
         (sooner (opening_stops fails.found) (probe_stop (width_of (bytes_in fails.found)) (chips_of_file (bytes_in fails.found)) ∷ []) stop
         (first_at (opening_stops fails.found) stop first)))
-    by script (inr (inl fault)) = inr (tt, inl (inl fault.0, fault.1))
-    by script (inr (inr want)) = inr (tt, inr (want (Show name)))
+    by script (inr (inl fault)) = inr (inl (tt, (inl fault.0, fault.1)))
+    by script (inr (inr want)) = inr (inr (tt, want (Show name)))
 
 -- ---- a bank that was opened
 
@@ -151,7 +179,7 @@ shows_file name file was now before after result kept free is script (inl stops)
 })
 shows_file name file was now before after result kept free is script (inr (inl lacks)) = does_as (Show name) was now before after result NoMemory lacks.0 (record {
   names = of_file was.files (Show name) file is script;
-  cause = inr (tt, inr (no_memory_is (Show name) NoMemory refl));
+  cause = inr (inr (tt, no_memory_is (Show name) NoMemory refl));
   kept = kept;
   silent = lacks.1;
 })
@@ -178,9 +206,10 @@ pub no_job : (race : Bool) (name script_name : List ℕ) (was now : ShelfState) 
 no_job race name script_name was now out stop kept fails = record { names = fails.names; cause = by fails.cause; kept = kept; silent = refl }
   where
     by : (stop_of (Script race name script_name) fails.names.bank fails.names.script ≡ Some stop) ⊎ (FailsRead fails.names.bank was now stop ⊎ IsWant (Script race name script_name) stop)
-        → (stop_of (Script race name script_name) fails.names.bank fails.names.script ≡ Some stop) ⊎ (Unit {0} × (FailsRead fails.names.bank was now stop ⊎ IsWant (Script race name script_name) stop))
+        → (stop_of (Script race name script_name) fails.names.bank fails.names.script ≡ Some stop) ⊎ ((Unit {0} × FailsRead fails.names.bank was now stop) ⊎ (Unit {0} × IsWant (Script race name script_name) stop))
     by (inl is) = inl is
-    by (inr mishap) = inr (tt, mishap)
+    by (inr (inl fails)) = inr (inl (tt, fails))
+    by (inr (inr want)) = inr (inr (tt, want))
 
 module _ (race : Bool) (name script_name : List ℕ) (was : ShelfState) (job : Job) (is : IsJob race was.files name script_name job) where
   abbrev width : ℕ
@@ -294,7 +323,7 @@ module _ (race : Bool) (name script_name : List ℕ) (was : ShelfState) (job : J
   was_stopped now before after result NoRunMemory saved kept stopped ends reports =
       does_as (Script race name script_name) was now before after result NoMemory stopped (record {
         names = names;
-        cause = inr (tt, inr (no_memory_is (Script race name script_name) NoMemory refl));
+        cause = inr (inr (tt, no_memory_is (Script race name script_name) NoMemory refl));
         kept = kept;
         silent = ends.2;
       })

@@ -65,7 +65,8 @@ answers_out (Read image at len) file text was now before mid after done r quiet 
 answers_out (Show image) file text was now before mid after done r quiet later out answers =
     ((answers.0, answers.1, prints_out _ was now before mid after done r later out answers.2), done_all answers.2.put done answers.2.is)
 answers_out (Script race image name) file text was now before mid after done r quiet later out answers = absurd (quiet tt)
-answers_out Drill file text was now before mid after done r quiet later out answers = absurd answers
+answers_out (Drill n) file text was now before mid after done r quiet later out answers =
+    ((answers.0, answers.1, prints_out _ was now before mid after done r later out answers.2), done_all answers.2.put done answers.2.is)
 answers_out Unknown file text was now before mid after done r quiet later out answers = absurd answers
 
 pub printed_out : (command : Asked) (was now : ShelfState) (before mid after : SinkState) (done : Done) (r : Result (Unit {0}) SinkError) → (IsScript command → ⊥) → before.faults ≤ mid.faults → PutsText [] mid after r

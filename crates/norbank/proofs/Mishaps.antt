@@ -63,7 +63,9 @@ works_mishap (Show name) file text was now before after stop answers =
     let prints = answers.2 in
     (put_mishap prints.put _ was now before after stop prints.puts prints.is, prints.kept)
 works_mishap (Script race name script_name) file text was now before after stop answers = script_mishap race name file text was now before after stop answers
-works_mishap Drill file text was now before after stop answers = absurd answers
+works_mishap (Drill n) file text was now before after stop answers =
+    let prints = answers.2 in
+    (put_mishap prints.put _ was now before after stop prints.puts prints.is, prints.kept)
 works_mishap Unknown file text was now before after stop answers = absurd answers
 
 -- ---- what the last text leaves

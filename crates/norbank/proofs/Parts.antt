@@ -88,7 +88,8 @@ begins (Script race image name) file text was now before after stop answers = by
         → Begins (Script race image name) file text before after
     by (inl whole) = whole_begins race image name file text was now before after stop answers whole
     by (inr part) = part_begins race image name file text was now before after stop answers part
-begins Drill file text was now before after stop answers = absurd answers
+begins (Drill n) file text was now before after stop answers =
+    record { whole = _; is = answers.1; part = prints_part _ was now before after stop answers.2 }
 begins Unknown file text was now before after stop answers = absurd answers
 
 -- ---- and why it wasn't done

@@ -22,7 +22,7 @@ use Rattle.norbank.specs.declared.stop.Done.TheVariants.{All, Halted}
 use Rattle.norbank.specs.declared.stop.File.{File}
 use Rattle.norbank.specs.declared.stop.File.TheVariants.{Bank, Script as ScriptFile}
 use Rattle.norbank.specs.declared.stop.Stop.{Stop}
-use Rattle.norbank.specs.declared.stop.Stop.TheVariants.{Usage, BadImage, BadScript, Unfound, Absent, TooLarge, ReadFault, WriteFault, OutOfRange, NotBuilt, NoMemory, Output}
+use Rattle.norbank.specs.declared.stop.Stop.TheVariants.{Usage, BadImage, BadScript, Unfound, Absent, TooLarge, ReadFault, WriteFault, OutOfRange, NoMemory, Output}
 
 -- ---- the status of a stop
 
@@ -50,7 +50,6 @@ never_run (TooLarge ScriptFile) = apart 4 (omega arith) (λ x. omega arith)
 never_run (ReadFault file) = apart 7 (omega arith) (λ x. omega arith)
 never_run WriteFault = apart 7 (omega arith) (λ x. omega arith)
 never_run OutOfRange = apart 10 (omega arith) (λ x. omega arith)
-never_run NotBuilt = apart 11 (omega arith) (λ x. omega arith)
 never_run NoMemory = apart 9 (omega arith) (λ x. omega arith)
 never_run (Output Fault) = apart 7 (omega arith) (λ x. omega arith)
 never_run (Output NoSinkMemory) = apart 9 (omega arith) (λ x. omega arith)
@@ -149,7 +148,7 @@ all_plain (Script race name script_name) bank script = (
     ),
   ),
 )
-all_plain Drill bank script = (one_plain NotBuilt (λ x. omega arith), tt)
+all_plain (Drill n) bank script = tt
 all_plain Unknown bank script = (one_plain Usage (λ x. omega arith), tt)
 
 -- ---- the status of what was done

@@ -1,6 +1,7 @@
 -- What a command that was done has printed and saved.
 use Rattle.std.proofs.Common.{◌≡◌, ◌+◌, ◌∙◌, ◌⊎◌, inl, inr, ℕ, List, refl, ap, arith, Bool, true, false, nat_lt, Option, Some, None, Result, Ok, Err}
 use Rattle.nor_bus.specs.Bus.{bank_size}
+use Rattle.nor_drill.specs.Drilled.{Drills}
 use Rattle.nor_image.specs.Image.{image_refusal, width_of}
 use Rattle.nor_io.specs.Files.{ShelfState, SinkState, Appends}
 use Rattle.nor_io.specs.Puts.{PutsText}
@@ -65,6 +66,11 @@ shown_by name was now before after done (Some file) script is free answers = rec
   text = prints_whole _ was now before after done answers.2;
 }
 
+pub drilled_by : (n : ℕ) (file text : List ℕ) (was now : ShelfState) (before after : SinkState) (done : Done) → Answers (Drill n) file text was now before after (Ok done)
+    → Drills n before after (Ok tt)
+drilled_by n file text was now before after done answers =
+    record { text = answers.0; summary = answers.1; puts = prints_whole _ was now before after done answers.2 }
+
 pub ran_by : (race : Bool) (name script_name : List ℕ) (was now : ShelfState) (before after : SinkState) (status : ℕ) (done : Done) (bank script : Option (List ℕ)) → IsFound was.files name bank → IsFound was.files script_name script
     → stop_of (Script race name script_name) bank script ≡ None → AreFree (stops_of (Script race name script_name) bank script) → status ≡ done_status done
     → RunsScript race name (bytes_in bank) (bytes_in script) was now before after (Ok done)
@@ -123,5 +129,5 @@ pub halts : (command : Asked) (file text : List ℕ) (was now : ShelfState) (bef
 halts (Read name at len) file text was now before after answers = absurd (put_all answers.put answers.is)
 halts (Show name) file text was now before after answers = let prints = answers.2 in absurd (put_all prints.put prints.is)
 halts (Script race name script_name) file text was now before after answers = tt
-halts Drill file text was now before after answers = answers
+halts (Drill n) file text was now before after answers = let prints = answers.2 in absurd (put_all prints.put prints.is)
 halts Unknown file text was now before after answers = answers

@@ -1,15 +1,16 @@
 -- How each command ends, read off its status.
-use Rattle.std.specs.Prelude.{◌≡◌, ◌≢◌, ◌⊎◌, ℕ, List, Bool, Some, None}
+use Rattle.std.specs.Prelude.{◌≡◌, ◌≢◌, ◌⊎◌, ℕ, List, Bool, Some, None, Ok}
+use Rattle.nor_drill.specs.Drilled.{Drills}
 use Rattle.nor_io.specs.Files.{ShelfState, SinkState, FileMap, Rose}
 use Rattle.norbank.specs.Does.{Ends}
 use Rattle.norbank.specs.Done.{PrintsImage, ShowsImage, RanImage, MayHaltImage, IsRun}
 use Rattle.norbank.specs.Endings.{Says, status_of, all_done, bank_halted, fault_told, lacks_memory}
 use Rattle.norbank.specs.Parts.{PutsPart}
 use Rattle.norbank.specs.Stops.{stop_of}
-use Rattle.norbank.specs.Text.{usage, not_built}
+use Rattle.norbank.specs.Text.{usage}
 use Rattle.norbank.specs.Words.{Asked, Read, Show, Script, Drill, Unknown, name_of}
 use Rattle.norbank.specs.declared.stop.File.TheVariants.{Bank, Script as ScriptFile}
-use Rattle.norbank.specs.declared.stop.Stop.TheVariants.{Usage, NotBuilt}
+use Rattle.norbank.specs.declared.stop.Stop.TheVariants.{Usage}
 
 abbrev pub IsScript : Asked → Type 0
 IsScript (Script race image name) = Unit {0}
@@ -35,11 +36,11 @@ pub record EndsAsAsked (command : Asked) (was now : ShelfState) (before after : 
     (status : ℕ) : Type 0 where
   pub ends : Ends command was now before after status
   pub usage : command ≡ Unknown → Says (status_of Usage) usage before after status
-  pub unbuilt : command ≡ Drill → Says (status_of NotBuilt) not_built before after status
   pub printed : (image : List ℕ) (at len : ℕ) → command ≡ Read image at len → status ≡ all_done
       → PrintsImage was.files image at len before after
   pub shown : (image : List ℕ) → command ≡ Show image → status ≡ all_done
       → ShowsImage was.files image before after
+  pub drilled : (n : ℕ) → command ≡ Drill n → status ≡ all_done → Drills n before after (Ok tt)
   pub ran : (race : Bool) (image name : List ℕ) → command ≡ Script race image name → IsRun status
       → RanImage race image name was now before after status
   pub halted : (race : Bool) (image name : List ℕ) → command ≡ Script race image name

@@ -4,6 +4,7 @@ use Rattle.std.specs.Prelude.{◌≡◌, ◌≤◌, ◌⊎◌, ℕ, List, Bool, 
 use Rattle.nor_cell.specs.Chip.{ChipState}
 use Rattle.nor_bus.specs.Bus.{BusState, bank_bytes}
 use Rattle.nor_bus.specs.Driven.{AllLanes}
+use Rattle.nor_drill.specs.Drilled.{IsSummary}
 use Rattle.nor_image.specs.Image.{device_of, width_of}
 use Rattle.nor_io.specs.Files.{ShelfState, SinkState, FileMap, Rose, Saves}
 use Rattle.nor_io.specs.Puts.{PutsText}
@@ -43,9 +44,14 @@ pub record Names (command : Asked) (told : Option FileMap) : Type 0 where
   pub is_script : IsFound told (name_of command ScriptFile) script
 
 abbrev pub NamesFile : Asked → Type 0
-NamesFile Drill = ⊥
+NamesFile (Drill n) = ⊥
 NamesFile Unknown = ⊥
 NamesFile _ = Unit {0}
+
+-- it takes memory
+abbrev pub MayWant : Asked → Type 0
+MayWant Unknown = ⊥
+MayWant _ = Unit {0}
 
 -- A file couldn't be read, which the shelf's count tells: that of the bank, or behind it the
 -- script's.
@@ -60,12 +66,13 @@ pub record IsWant (command : Asked) (stop : Stop) : Type 0 where
   pub text : text_of command stop ≡ no_memory
 
 -- It stops as the first thing says that is wrong in the order of work; or, where it names a file,
--- as one can't be read, or for want of memory. Nothing was put, and no file has changed.
+-- as one can't be read; or for want of memory. Nothing was put, and no file has changed.
 pub record Stops (command : Asked) (was now : ShelfState) (before after : SinkState) (stop : Stop)
     : Type 0 where
   pub names : Names command was.files
   pub cause : (stop_of command names.bank names.script ≡ Some stop)
-      ⊎ (NamesFile command × (FailsRead names.bank was now stop ⊎ IsWant command stop))
+      ⊎ ((NamesFile command × FailsRead names.bank was now stop)
+      ⊎ (MayWant command × IsWant command stop))
   pub kept : now.files ≡ was.files
   pub silent : Untouched before after
 
@@ -137,7 +144,7 @@ pub record RunsScript (race : Bool) (name file text : List ℕ) (was now : Shelf
   pub runs : RunsWhole race name file lines was now before after result
       ⊎ RunsPart race file lines was now before after result
 
--- What is asked for was done on the bank of a file, as far as the output took it.
+-- What is asked for was done, on the bank of a file or of a number, as far as the output took it.
 abbrev pub Answers : Asked → (file text : List ℕ) → (was now : ShelfState)
     → (before after : SinkState)
     → Result Done Stop → Type 0
@@ -149,7 +156,8 @@ Answers (Show image) file text was now before after result =
     × Prints (found_lines (width_of file) found) was now before after result
 Answers (Script race image name) file text was now before after result =
     RunsScript race image file text was now before after result
-Answers Drill file text was now before after result = ⊥
+Answers (Drill n) file text was now before after result =
+    (summary : List ℕ) × IsSummary n summary × Prints summary was now before after result
 Answers Unknown file text was now before after result = ⊥
 
 -- Nothing is wrong, and what is asked for was done.

@@ -1,5 +1,7 @@
 -- How a command ends: the status and the text of what stopped it, or the status of what was done.
 use Rattle.std.specs.Prelude.{◌≡◌, ◌⊎◌, ℕ, List, [], Bool, true, false, Result, Ok, Err}
+use Rattle.nor_drill.specs.declared.drilled.DrillError.{DrillError}
+use Rattle.nor_drill.specs.declared.drilled.DrillError.TheVariants.{NoMemory as NoDrillMemory, Put as PutSummary}
 use Rattle.nor_image.specs.declared.error.ImageError.TheVariants.{NoMemory as NoImageMemory}
 use Rattle.nor_io.specs.Files.{SinkState, Rose, Appends, AppendsPart}
 use Rattle.nor_io.specs.declared.shelf.LoadError.{LoadError}
@@ -10,14 +12,14 @@ use Rattle.nor_io.specs.declared.sink.SinkError.TheVariants.{Fault, NoMemory as 
 use Rattle.nor_run.specs.declared.error.RunError.{RunError}
 use Rattle.nor_run.specs.declared.error.RunError.TheVariants.{Probe, NoMemory as NoRunMemory, Put}
 use Rattle.nor_script.specs.declared.error.ScriptError.TheVariants.{NoMemory as NoScriptMemory}
-use Rattle.norbank.specs.Text.{usage, not_built, no_memory, out_of_range, absent, read_fault, write_fault, too_large, image_text, script_text, probe_text}
+use Rattle.norbank.specs.Text.{usage, no_memory, out_of_range, absent, read_fault, write_fault, too_large, image_text, script_text, probe_text}
 use Rattle.norbank.specs.Words.{Asked, name_of}
 use Rattle.norbank.specs.declared.stop.Done.{Done}
 use Rattle.norbank.specs.declared.stop.Done.TheVariants.{All, Halted}
 use Rattle.norbank.specs.declared.stop.File.{File}
 use Rattle.norbank.specs.declared.stop.File.TheVariants.{Bank, Script}
 use Rattle.norbank.specs.declared.stop.Stop.{Stop}
-use Rattle.norbank.specs.declared.stop.Stop.TheVariants.{Usage, BadImage, BadScript, Unfound, Absent, TooLarge, ReadFault, WriteFault, OutOfRange, NotBuilt, NoMemory, Output}
+use Rattle.norbank.specs.declared.stop.Stop.TheVariants.{Usage, BadImage, BadScript, Unfound, Absent, TooLarge, ReadFault, WriteFault, OutOfRange, NoMemory, Output}
 
 -- ---- the table
 
@@ -40,7 +42,6 @@ status_of (TooLarge Script) = 4
 status_of (ReadFault file) = 7
 status_of WriteFault = 7
 status_of OutOfRange = 10
-status_of NotBuilt = 11
 status_of NoMemory = 9
 status_of (Output Fault) = 7
 status_of (Output NoSinkMemory) = 9
@@ -69,7 +70,6 @@ text_of command (TooLarge file) = too_large file
 text_of command (ReadFault file) = read_fault (name_of command file)
 text_of command WriteFault = write_fault (name_of command Bank)
 text_of command OutOfRange = out_of_range
-text_of command NotBuilt = not_built
 text_of command NoMemory = no_memory
 text_of command (Output error) = []
 
@@ -89,6 +89,10 @@ abbrev pub run_failure : RunError → Stop
 run_failure (Probe error) = Unfound error
 run_failure NoRunMemory = NoMemory
 run_failure (Put error) = Output error
+
+abbrev pub drill_failure : DrillError → Stop
+drill_failure NoDrillMemory = NoMemory
+drill_failure (PutSummary error) = Output error
 
 -- what was done where a script was run
 abbrev pub done_of : Bool → Done

@@ -2,6 +2,7 @@
 use Rattle.std.specs.Prelude.{◌≡◌, ◌⊎◌, ℕ, List, take, Bool, Option, Ok}
 use Rattle.nor_bus.specs.Bus.{BusState, bank_bytes}
 use Rattle.nor_array.specs.declared.entry.Entry.{Entry}
+use Rattle.nor_drill.specs.Drilled.{IsSummary}
 use Rattle.nor_image.specs.Image.{device_of, width_of}
 use Rattle.nor_io.specs.Files.{SinkState, FileMap, AppendsPart}
 use Rattle.nor_probe.specs.Probed.{IsFoundOn}
@@ -30,7 +31,7 @@ pub record IsReport (race : Bool) (file script whole : List ℕ) : Type 0 where
   pub runs : IsRunOf race (width_of file) (take count lines) (bus_in file) new history
   pub due : IsDue lines count history (counters_of new.lanes) whole
 
--- the text is what a command puts of a bank and a script
+-- the text is what a command puts of a bank and a script, or of a number
 abbrev pub IsOutput : Asked → (file script whole : List ℕ) → Type 0
 IsOutput (Read image at len) file script whole =
     whole ≡ hex_line (bank_bytes (device_of file) (chips_of_file file) at len)
@@ -38,7 +39,7 @@ IsOutput (Show image) file script whole =
     (found : Found) × IsFoundOn (width_of file) (chips_of_file file) found
     × (whole ≡ found_lines (width_of file) found)
 IsOutput (Script race image name) file script whole = IsReport race file script whole
-IsOutput Drill file script whole = ⊥
+IsOutput (Drill n) file script whole = IsSummary n whole
 IsOutput Unknown file script whole = ⊥
 
 -- a first part of what the command puts was put

@@ -13,7 +13,7 @@ use Rattle.norbank.specs.Words.{Asked, Read, Show, Script, Drill, Unknown}
 use Rattle.norbank.specs.declared.stop.File.{File}
 use Rattle.norbank.specs.declared.stop.File.TheVariants.{Bank, Script as ScriptFile}
 use Rattle.norbank.specs.declared.stop.Stop.{Stop}
-use Rattle.norbank.specs.declared.stop.Stop.TheVariants.{Usage, BadImage, BadScript, Unfound, Absent, TooLarge, OutOfRange, NotBuilt}
+use Rattle.norbank.specs.declared.stop.Stop.TheVariants.{Usage, BadImage, BadScript, Unfound, Absent, TooLarge, OutOfRange}
 
 -- ---- the bank of a file
 
@@ -82,7 +82,7 @@ stops_of (Script race image name) bank script =
     ∷ text_stop (script_of race (bytes_in script))
     ∷ probe_stop (width_of (bytes_in bank)) (chips_of_file (bytes_in bank))
     ∷ []
-stops_of Drill bank script = Some NotBuilt ∷ []
+stops_of (Drill n) bank script = []
 stops_of Unknown bank script = Some Usage ∷ []
 
 abbrev pub stop_of : Asked → (bank script : Option (List ℕ)) → Option Stop

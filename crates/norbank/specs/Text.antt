@@ -21,9 +21,6 @@ hex_line (byte ∷ bytes) = encode_lower (byte ∷ bytes) ++ codes "\n"
 abbrev pub usage : List ℕ
 usage = codes "usage: norbank read IMAGE ADDR LEN, show IMAGE, run IMAGE SCRIPT, race IMAGE SCRIPT, drill N\n"
 
-abbrev pub not_built : List ℕ
-not_built = codes "not built\n"
-
 abbrev pub no_memory : List ℕ
 no_memory = codes "no memory\n"
 

@@ -4,13 +4,15 @@
 //! promises: how each command ends, with which text and status, by the words and the bytes of the
 //! files, as `specs/Does.antt` and `specs/AsAsked.antt` say. It races a script itself and hands every other
 //! command to `quiet`, which waits for nobody. `words` reads the words. Each command has a body of its own in
-//! `read`, `show` and `run`, which ends with what was done or with the first thing that stopped it: `stop`
+//! `read`, `show`, `run` and `drill`, which ends with what was done or with the first thing that stopped it: `stop`
 //! has these things and the status of each, `specs/Stops.antt` their order. They share `open`, which loads
 //! files and makes banks of them, and `jobs`, which takes the bank and the script of a run or a race. `telling`
 //! puts the text of what stopped a command. It stands on nor_image for the file, on nor_probe, nor_show and
-//! nor_bank for the bank, on nor_script, nor_run and nor_race for scripts, and on nor_io for files and output.
+//! nor_bank for the bank, on nor_script, nor_run and nor_race for scripts, on nor_drill for drills, and on nor_io
+//! for files and output.
 #![tactic(auto)]
 
+mod drill;
 mod emptying;
 mod jobs;
 mod open;

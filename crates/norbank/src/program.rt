@@ -37,7 +37,7 @@ fn obey_all<R: Threads + Wait + Sync, H: Shelf, K: Output, G: Gate + Sync>(
         Command::Read { .. } => obey(alloc, command, shelf, out),
         Command::Show { .. } => obey(alloc, command, shelf, out),
         Command::Run { .. } => obey(alloc, command, shelf, out),
-        Command::Drill => obey(alloc, command, shelf, out),
+        Command::Drill { .. } => obey(alloc, command, shelf, out),
         Command::Unknown => obey(alloc, command, shelf, out),
     }
 }

@@ -5,6 +5,7 @@ ghost use Rattle.norbank.specs.Does.{Does};
 ghost use Rattle.norbank.specs.Endings.{fault_told, lacks_memory};
 ghost use Rattle.norbank.specs.Words.{asked, asked_by, quietly};
 
+use crate::drill::drill;
 use crate::emptying::printed;
 use crate::read::read;
 use crate::run::run;
@@ -38,7 +39,10 @@ pub fn obey<H: Shelf, K: Output>(
             printed(ended, out)
         }
         Command::Run { image, script } => run(alloc, image, script, shelf, out),
-        Command::Drill => Err(Stop::NotBuilt),
+        Command::Drill { n } => {
+            let ended = drill(alloc, n, out);
+            printed(ended, out)
+        }
         Command::Race { .. } => Err(Stop::Usage),
         Command::Unknown => Err(Stop::Usage),
     }
@@ -48,8 +52,8 @@ pub fn obey<H: Shelf, K: Output>(
 /// shelf, and the text goes to the sink. It always returns.
 ///
 /// `read IMAGE ADDR LEN` prints bytes of a bank, `show IMAGE` what it is. `run IMAGE SCRIPT` runs the
-/// commands of a script on it, prints a report and saves the bank. Today `drill N` answers that it isn't
-/// built; the words of `race` are no form.
+/// commands of a script on it, prints a report and saves the bank. `drill N` runs a script of its own on a
+/// bank of its own, and prints a summary. The words of `race` are no form.
 pub fn quiet<H: Shelf, K: Output>(
     alloc: Global,
     words: &[String],

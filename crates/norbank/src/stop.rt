@@ -1,8 +1,9 @@
 //! What stops a command, and the status with which each command ends.
 ghost use Rattle.std.specs.Prelude.{◌≡◌};
-ghost use Rattle.norbank.specs.Endings.{status_of, done_status, done_of, file_failure, save_failure, run_failure};
+ghost use Rattle.norbank.specs.Endings.{status_of, done_status, done_of, file_failure, save_failure, run_failure, drill_failure};
 ghost use Rattle.norbank.specs.declared.stop.Stop.TheVariants.{BadImage, BadScript, Unfound, NoMemory, Output};
 
+use nor_drill::DrillError;
 use nor_image::ImageError;
 use nor_io::{LoadError, SaveError, SinkError};
 use nor_probe::ProbeError;
@@ -47,7 +48,6 @@ pub enum Stop {
     WriteFault,
     /// What is asked for isn't in the bank.
     OutOfRange,
-    NotBuilt,
     NoMemory,
     /// The output failed, or lacked memory.
     Output(SinkError),
@@ -71,7 +71,6 @@ impl Stop {
             Stop::ReadFault(_) => 7,
             Stop::WriteFault => 7,
             Stop::OutOfRange => 10,
-            Stop::NotBuilt => 11,
             Stop::NoMemory => 9,
             Stop::Output(SinkError::Fault) => 7,
             Stop::Output(SinkError::NoMemory) => 9,
@@ -169,6 +168,17 @@ impl From<RunError> for Stop {
             RunError::Probe(error) => Stop::Unfound(error),
             RunError::NoMemory => Stop::NoMemory,
             RunError::Put(error) => Stop::Output(error),
+        }
+    }
+}
+
+impl From<DrillError> for Stop {
+    ghost from_gives = { λ error stop. stop ≡ drill_failure error };
+
+    fn from(error: DrillError) -> Stop {
+        match error {
+            DrillError::NoMemory => Stop::NoMemory,
+            DrillError::Put(error) => Stop::Output(error),
         }
     }
 }

@@ -238,7 +238,6 @@ fn tell_stop<K: Sink>(alloc: Global, command: Command, stop: Stop, out: &mut K) 
             )
         }
         Stop::OutOfRange => say(code, b"out of range\n", out),
-        Stop::NotBuilt => say(code, b"not built\n", out),
         Stop::NoMemory => say_no_memory(out),
         Stop::Output(_) => Status { code },
     }

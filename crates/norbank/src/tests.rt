@@ -1,11 +1,16 @@
 //! The program over shelves and sinks in memory: banks of each kind, and each refusal.
+mod again;
+mod hostile;
 mod images;
+mod mutated;
 mod races;
+mod rows;
 mod runs;
+mod tables;
 
 use crate::quiet::quiet;
 use images::Bank::{FourAmd, FourX16, OneAmdInByteMode, OneInByteMode, OneX16, TopBoot, TwoX8};
-use images::{Bank, Bytes, file_of, first_part};
+use images::{Bank, Bytes, file_of};
 use nor_io::{MemShelf, MemSink, Shelf};
 use std::alloc::{AllocError, Global};
 use std::process::Abort;
@@ -58,6 +63,24 @@ fn run(
     let words = words_of(alloc, texts)?;
     let status = quiet(alloc, &words, &mut shelf, &mut out);
     left_by(alloc, status.code, &mut shelf, &out)
+}
+
+// `run bank script` over these files, and calls that fail by their numbers.
+fn run_script(
+    alloc: Global,
+    bank: &[u8],
+    script: &[u8],
+    fail_shelf: &[u32],
+    fail_sink: &[u32],
+) -> Result<Ended, AllocError> {
+    run(
+        alloc,
+        &["run", "bank", "script"],
+        bank,
+        script,
+        fail_shelf,
+        fail_sink,
+    )
 }
 
 // The words end with this status and text over this file.
@@ -136,8 +159,8 @@ const SHOWN: [Row; 4] = [
     ),
 ];
 
-// Lane 0's table begins at place 32 of the file, lane 1's at place 8760.
-const REFUSED: [Row; 13] = [
+// Lane 1's table begins at place 8760 of the file.
+const REFUSED: [Row; 5] = [
     (
         OneX16,
         &[],
@@ -159,61 +182,16 @@ const REFUSED: [Row; 13] = [
         8,
         b"absent other\n",
     ),
-    (OneX16, &[(8, 3)], SHOW, 3, b"image: bad header at 8\n"),
-    // Lane 1's table and its size say 4 KiB.
     (
         TwoX8,
-        &[(8799, 12), (9273, 0x10)],
-        SHOW,
-        3,
-        b"image: size differs in lane 1\n",
-    ),
-    (OneX16, &[(32 + 0x10, 0)], SHOW, 5, b"probe: no answer\n"),
-    (
-        OneX16,
-        &[(32 + 0x10, 0)],
-        READ_ONE,
-        5,
-        b"probe: no answer\n",
-    ),
-    (
-        OneX16,
-        &[(32 + 0x2D, 6)],
-        SHOW,
-        5,
-        b"probe: query at 0x2d: sum 7168 size 8192\n",
-    ),
-    (
-        OneX16,
-        &[(32 + 0x2D, 6)],
-        READ_ONE,
-        5,
-        b"probe: query at 0x2d: sum 7168 size 8192\n",
-    ),
-    (
-        OneX16,
-        &[(32 + 0x13, 3)],
-        SHOW,
-        5,
-        b"probe: query at 0x13: set 0003\n",
-    ),
-    (
-        OneX16,
-        &[(32 + 0x13, 3)],
-        READ_ONE,
-        5,
-        b"probe: query at 0x13: set 0003\n",
-    ),
-    (
-        TwoX8,
-        &[(8760 + 0x1B, 0x30)],
+        &[(8760 + 0x1B, 1, 0x30)],
         SHOW,
         5,
         b"probe: lane 1 differs at 0x1b: 27 30\n",
     ),
     (
         TwoX8,
-        &[(8760 + 0x1B, 0x30)],
+        &[(8760 + 0x1B, 1, 0x30)],
         READ_ONE,
         5,
         b"probe: lane 1 differs at 0x1b: 27 30\n",
@@ -240,39 +218,6 @@ fn a_range_of_several_pieces_is_printed_whole(rt: HostRuntime) -> Result<(), Fai
     assert!(rt; text.starts_with(b"0102"));
     assert!(rt; text.get(8190..8194) == Some(b"0001".as_slice()));
     assert!(rt; text.ends_with(b"feff\n"));
-    Ok(())
-}
-
-#[test]
-fn files_that_are_no_banks_and_faults_are_told(rt: HostRuntime) -> Result<(), Fail> {
-    let alloc = rt.alloc();
-    let one = file_of(alloc, OneX16, &[])?;
-    let mut longer = file_of(alloc, OneX16, &[])?;
-    longer.push(0)?;
-    for (file, printed) in [
-        (
-            b"hello, world\n".as_slice(),
-            b"image: bad magic\n".as_slice(),
-        ),
-        (
-            first_part(&one, 8739),
-            b"image: truncated at 8739\n".as_slice(),
-        ),
-        (longer.as_slice(), b"image: trailing at 8740\n".as_slice()),
-    ] {
-        expect(&rt, alloc, file, SHOW, 3, printed)?;
-    }
-    // a file that is cut short never faults the program
-    for len in 0..600usize {
-        let ended = run(alloc, READ_ONE, first_part(&one, len), b"", &[], &[])?;
-        assert_eq!(rt; ended.code, 3);
-    }
-    let unread = run(alloc, READ_ONE, &one, b"", &[0], &[])?;
-    assert_eq!(rt; unread.code, 7);
-    assert_eq!(rt; unread.printed.as_slice(), b"read fault bank\n".as_slice());
-    let unsaid = run(alloc, READ_ONE, &one, b"", &[], &[0])?;
-    assert_eq!(rt; unsaid.code, 7);
-    assert_eq!(rt; unsaid.printed.len(), 0);
     Ok(())
 }
 
@@ -304,6 +249,34 @@ fn words_that_are_no_form_are_usage(rt: HostRuntime) -> Result<(), Fail> {
                 .starts_with(b"usage: norbank read IMAGE ADDR LEN")
         );
     }
-    expect(&rt, alloc, b"", &["drill", "10"], 11, b"not built\n")?;
+    Ok(())
+}
+
+// What the same work in plain C prints for a number of each set.
+const SUMMARIES: [(&str, &[u8]); 2] = [
+    (
+        "0",
+        b"drill 0\nlines 4104\ndone 971\nread 1365\nopened 7\nerased 6\nyes 112\nno 113\nout-of-range 2\ntoo-long 0\nbusy 394\noccupied 191\nlocked 439\nno-locks 0\nnothing 383\nnot-yet 121\nfailed 0\noff 0\nstuck 0\nsum 3586432\n",
+    ),
+    (
+        "1",
+        b"drill 1\nlines 4104\ndone 938\nread 1349\nopened 8\nerased 7\nyes 122\nno 116\nout-of-range 7\ntoo-long 0\nbusy 448\noccupied 206\nlocked 429\nno-locks 0\nnothing 361\nnot-yet 113\nfailed 0\noff 0\nstuck 0\nsum 3555252\n",
+    ),
+];
+
+#[test]
+fn drills_print_one_summary_and_take_no_file(rt: HostRuntime) -> Result<(), AllocError> {
+    let alloc = rt.alloc();
+    for (n, summary) in SUMMARIES {
+        for _ in 0..2u32 {
+            // both loads behind the command fail: it made no call of the shelf
+            let ended = run(alloc, &["drill", n], b"bank", b"script", &[0, 1], &[])?;
+            assert_eq!(rt; (ended.code, ended.printed.as_slice()), (0, summary));
+            assert!(rt; ended.bank.is_empty() && ended.script.is_empty());
+        }
+    }
+    let failed = run(alloc, &["drill", "1"], b"", b"", &[], &[0])?;
+    assert_eq!(rt; failed.code, 7);
+    assert!(rt; failed.printed.is_empty());
     Ok(())
 }

@@ -1,30 +1,12 @@
 //! Scripts on banks in memory: replies, refusals, and what is saved.
 use super::images::Bank::{FourPlainAmd, OnePlain, OnePlainAmdInByteMode, OneX16, TwoPlainX8};
 use super::images::{Bank, Bytes, file_of, first_part, saved_file_of};
-use super::{Ended, run, words_of};
+use super::{run_script, words_of};
 use crate::quiet::quiet;
 use nor_io::{MemShelf, MemSink};
 use std::alloc::{AllocError, Global};
 use std::process::Abort;
 use std::test::Fail;
-
-// `run bank script` over these files, and calls that fail by their numbers.
-fn run_script(
-    alloc: Global,
-    bank: &[u8],
-    script: &[u8],
-    fail_shelf: &[u32],
-    fail_sink: &[u32],
-) -> Result<Ended, AllocError> {
-    run(
-        alloc,
-        &["run", "bank", "script"],
-        bank,
-        script,
-        fail_shelf,
-        fail_sink,
-    )
-}
 
 // The script ends so, and leaves this file of the bank.
 fn ends(
@@ -57,13 +39,13 @@ const REPORTS: [Row; 7] = [
         OnePlain,
         b"1 program 0x3 0000\n1 read 0x2 4\n1 program 0x10 -\n1 read 0x1fff 2\n1 read 0x2000 0\n",
         b"0 1 program 0x3 0000 -> done\n1 1 read 0x2 4 -> 02000005\n2 1 program 0x10 - -> done\n3 1 read 0x1fff 2 -> out-of-range\n4 1 read 0x2000 0 -> -\nlane 0 suspends 0 erases 0\nhistory 5\n",
-        &[(CELLS + 3, 0), (CELLS + 4, 0)],
+        &[(CELLS + 3, 1, 0), (CELLS + 4, 1, 0)],
     ),
     (
         OnePlain,
         b"1 program 0x1 f0\n1 read 0x0 2\n",
         b"0 1 program 0x1 f0 -> done\n1 1 read 0x0 2 -> 0000\nlane 0 suspends 0 erases 0\nhistory 2\n",
-        &[(CELLS + 1, 0)],
+        &[(CELLS + 1, 1, 0)],
     ),
     (
         OnePlain,
@@ -76,26 +58,26 @@ const REPORTS: [Row; 7] = [
         TwoPlainX8,
         b"1 program 0x1 0f\n# a comment\n\n2 read 0x0 4\n3 read 0x0 4097\n",
         b"0 1 program 0x1 0f -> done\n1 2 read 0x0 4 -> 000f01fe\n2 3 read 0x0 4097 -> too-long\nlane 0 suspends 0 erases 0\nlane 1 suspends 0 erases 0\nhistory 3\n",
-        &[(CELLS + 8732, 0x0F)],
+        &[(CELLS + 8732, 1, 0x0F)],
     ),
     // Byte 5 of the bank is byte 1 of lane 2.
     (
         FourPlainAmd,
         b"1 program 0x5 0f\n1 read 0x0 8\n",
         b"0 1 program 0x5 0f -> done\n1 1 read 0x0 8 -> ffffffffff0fffff\nlane 0 suspends 0 erases 0\nlane 1 suspends 0 erases 0\nlane 2 suspends 0 erases 0\nlane 3 suspends 0 erases 0\nhistory 2\n",
-        &[(12 + 2 * 8732 + 540 + 1, 0x0F)],
+        &[(12 + 2 * 8732 + 540 + 1, 1, 0x0F)],
     ),
     (
         FourPlainAmd,
         TWO_HALVES,
         b"0 1 program 0x0 f0 -> done\n1 1 program 0x0 0f -> done\n2 1 read 0x0 1 -> 00\nlane 0 suspends 0 erases 0\nlane 1 suspends 0 erases 0\nlane 2 suspends 0 erases 0\nlane 3 suspends 0 erases 0\nhistory 3\n",
-        &[(CELLS, 0)],
+        &[(CELLS, 1, 0)],
     ),
     (
         OnePlainAmdInByteMode,
         TWO_HALVES,
         b"0 1 program 0x0 f0 -> done\n1 1 program 0x0 0f -> done\n2 1 read 0x0 1 -> 00\nlane 0 suspends 0 erases 0\nhistory 3\n",
-        &[(CELLS, 0)],
+        &[(CELLS, 1, 0)],
     ),
 ];
 
@@ -108,69 +90,6 @@ fn scripts_are_answered_and_banks_saved(rt: HostRuntime) -> Result<(), Fail> {
         for file in [file_of(alloc, bank, &[])?, saved_file_of(alloc, bank, &[])?] {
             ends(&rt, alloc, &file, script, 0, report, &saved)?;
         }
-    }
-    Ok(())
-}
-
-// A bank, a script of erases, locks or cuts, and the status and the report with which it ends.
-type Line = (Bank, &'static [u8], u8, &'static [u8]);
-
-const LINES: [Line; 7] = [
-    // Chips that can't be suspended.
-    (
-        OnePlain,
-        b"1 open 0\n2 read 0x400 2\n2 read 0x0 1\n2 poll\n2 open 1\n1 poll\n1 poll\n1 poll\n1 poll\n1 read 0x0 2\n",
-        0,
-        b"0 1 open 0 -> opened\n1 2 read 0x400 2 -> not-yet\n2 2 read 0x0 1 -> busy 0\n3 2 poll -> nothing\n4 2 open 1 -> occupied 0\n5 1 poll -> not-yet\n6 1 poll -> not-yet\n7 1 poll -> not-yet\n8 1 poll -> erased\n9 1 read 0x0 2 -> ffff\nlane 0 suspends 0 erases 1\nhistory 10\n",
-    ),
-    (
-        OnePlain,
-        b"1 lock 0\n",
-        0,
-        b"0 1 lock 0 -> no-locks\nlane 0 suspends 0 erases 0\nhistory 1\n",
-    ),
-    // Two lines that print two entries each: the polls that had to wait print none.
-    (
-        OnePlain,
-        b"1 erase 0\n2 erase 9\n",
-        0,
-        b"0 1 open 0 -> opened\n1 1 poll -> erased\n2 2 open 9 -> out-of-range\nlane 0 suspends 0 erases 1\nhistory 3\n",
-    ),
-    // A chip with locks that can be suspended, and ends within its pace.
-    (
-        OneX16,
-        b"1 unlock 0\n1 open 0\n1 poll\n1 poll\n2 read 0x400 2\n2 read 0x0 1\n1 poll\n1 read 0x0 2\n",
-        0,
-        b"0 1 unlock 0 -> done\n1 1 open 0 -> opened\n2 1 poll -> not-yet\n3 1 poll -> not-yet\n4 2 read 0x400 2 -> 0001\n5 2 read 0x0 1 -> busy 0\n6 1 poll -> erased\n7 1 read 0x0 2 -> ffff\nlane 0 suspends 0 erases 1\nhistory 8\n",
-    ),
-    (
-        OneX16,
-        b"1 program 0x1 f0\n1 locked 0\n1 unlock 0\n1 program 0x1 f0\n1 read 0x0 2\n",
-        0,
-        b"0 1 program 0x1 f0 -> locked 0\n1 1 locked 0 -> yes\n2 1 unlock 0 -> done\n3 1 program 0x1 f0 -> done\n4 1 read 0x0 2 -> 0000\nlane 0 suspends 0 erases 0\nhistory 5\n",
-    ),
-    (
-        OneX16,
-        b"cut 0 0xff\n1 read 0x0 2\n1 read 0x2000 1\nreboot\n1 read 0x0 2\nreboot\n",
-        6,
-        b"0 0 cut 0 0xff -> done\n1 1 read 0x0 2 -> off 0\n2 1 read 0x2000 1 -> out-of-range\n3 0 reboot -> done\n4 1 read 0x0 2 -> 0001\n5 0 reboot -> nothing\nlane 0 suspends 0 erases 0\nhistory 6\n",
-    ),
-    (
-        OneX16,
-        b"1 unlock 0\n1 open 0\ncut 0 0x0f\n2 read 0x400 2\nreboot\n1 poll\n1 locked 0\n2 read 0x400 2\n2 read 0x0 2\n",
-        6,
-        b"0 1 unlock 0 -> done\n1 1 open 0 -> opened\n2 0 cut 0 0x0f -> done\n3 2 read 0x400 2 -> off 0\n4 0 reboot -> done\n5 1 poll -> nothing\n6 1 locked 0 -> yes\n7 2 read 0x400 2 -> 0001\n8 2 read 0x0 2 -> 0f0f\nlane 0 suspends 0 erases 1\nhistory 9\n",
-    ),
-];
-
-#[test]
-fn every_line_is_answered(rt: HostRuntime) -> Result<(), Fail> {
-    let alloc = rt.alloc();
-    for (bank, script, code, report) in LINES {
-        let file = file_of(alloc, bank, &[])?;
-        let ended = run_script(alloc, &file, script, &[], &[])?;
-        assert_eq!(rt; ended.code, code);
-        assert_eq!(rt; ended.printed.as_slice(), report);
     }
     Ok(())
 }
@@ -235,15 +154,21 @@ const FIRST: [Refused; 4] = [
     (OneX16, &[], b"1 reed 0x0 1\n", 4, b"script: line 1: word\n"),
     (
         OnePlain,
-        &[(0, 0)],
+        &[(0, 1, 0)],
         b"1 reed 0x0 1\n",
         3,
         b"image: bad magic\n",
     ),
-    (OnePlain, &[(32 + 0x10, 0)], b"", 5, b"probe: no answer\n"),
     (
         OnePlain,
-        &[(32 + 0x10, 0)],
+        &[(32 + 0x10, 1, 0)],
+        b"",
+        5,
+        b"probe: no answer\n",
+    ),
+    (
+        OnePlain,
+        &[(32 + 0x10, 1, 0)],
         b"1 reed 0x0 1\n",
         4,
         b"script: line 1: word\n",
@@ -268,30 +193,6 @@ fn scripts_are_refused_and_files_stay(rt: HostRuntime) -> Result<(), Fail> {
         b"image: truncated at 8739\n",
         short,
     )?;
-    Ok(())
-}
-
-#[test]
-fn faults_leave_the_bank(rt: HostRuntime) -> Result<(), Fail> {
-    let alloc = rt.alloc();
-    let bank = file_of(alloc, OnePlain, &[])?;
-    let script = b"1 program 0x3 0000\n";
-    let texts: [&[u8]; 3] = [
-        b"read fault bank\n",
-        b"read fault script\n",
-        b"0 1 program 0x3 0000 -> done\nlane 0 suspends 0 erases 0\nhistory 1\nwrite fault bank\n",
-    ];
-    for (call, text) in (0u32..).zip(texts) {
-        let ended = run_script(alloc, &bank, script, &[call], &[])?;
-        assert_eq!(rt; ended.code, 7);
-        assert_eq!(rt; ended.printed.as_slice(), text);
-        assert_eq!(rt; ended.bank.as_slice(), bank.as_slice());
-    }
-    for call in 0..4u32 {
-        let ended = run_script(alloc, &bank, script, &[], &[call])?;
-        assert_eq!(rt; ended.code, 7);
-        assert_eq!(rt; ended.bank.as_slice(), bank.as_slice());
-    }
     Ok(())
 }
 

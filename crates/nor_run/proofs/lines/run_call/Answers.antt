@@ -11,7 +11,7 @@ make-reply-requires-clause-given g c = reads_not c.args.op.now c.in_default.not-
 pub returns-clause-runs : goal.returns-clause-runs
 returns-clause-runs g c =
     made_runs g.T.Taker.takes c.args.bank.now c.make-reply.new.bank c.args.caller c.args.op.now c.args.ran c.make-reply.result _ _ c.hand_on.result
-    c.make-reply.ensures c.hand_on.ensures
+    (reads_not c.args.op.now c.in_default.not-Read) c.make-reply.ensures c.hand_on.ensures
 
 pub returns-clause-keeps : goal.returns-clause-keeps
 returns-clause-keeps g c = c.make-reply.ensures.keeps

@@ -1,4 +1,4 @@
-use Rattle.std.proofs.Common.{[], Result, subst}
+use Rattle.std.proofs.Common.{[], Result, subst, true}
 use Rattle.nor_array.specs.declared.entry.Reply.{Reply}
 use Rattle.nor_bank.proofs.Keeping.{keeps_bank_then}
 use Rattle.nor_history.specs.Histories.{Makes}
@@ -20,10 +20,10 @@ pub returns-in_err-ran-in-Opened-clause-runs : goal.returns-in_err-ran-in-Opened
 returns-in_err-ran-in-Opened-clause-runs g c =
     let makes = subst (λ (r : Reply). Makes c.args.caller c.args.op.now c.args.bank.now c.make.new.bank r []) c.in-Opened.is c.make.ensures in
     of_error c.from_residual.result c.in_err-ran-in-Opened.field-0.0
-    (λ (r : Result Ran _). RunsTo g.T.Taker.takes (AnswersErase c.args.caller c.args.op.now) c.args.ran c.args.bank.now c.poll_on-closed.new.bank c.args.taker.now c.hand_on.new.taker r)
+    (λ (r : Result Ran _). RunsTo g.T.Taker.takes true (AnswersErase c.args.caller c.args.op.now) c.args.ran c.args.bank.now c.poll_on-closed.new.bank c.args.taker.now c.hand_on.new.taker r)
     c.from_residual.ensures.1
     (erase_stopped g.T.Taker.takes c.args.caller c.args.op.now c.args.ran c.args.bank.now c.make.new.bank c.poll_on-closed.new.bank c.poll_on-closed.result
-    c.args.taker.now c.hand_on.new.taker c.in_err-ran-in-Opened.field-0.0 makes c.poll_on-closed.ensures.polls c.in_err-ran-in-Opened.ensures)
+    c.args.taker.now c.hand_on.new.taker c.in_err-ran-in-Opened.field-0.0 c.requires.opens makes c.poll_on-closed.ensures.polls c.in_err-ran-in-Opened.ensures)
 
 pub returns-in_err-ran-in-Opened-clause-keeps : goal.returns-in_err-ran-in-Opened-clause-keeps
 returns-in_err-ran-in-Opened-clause-keeps g c = keeps_bank_then c.args.bank.now c.make.new.bank c.poll_on-closed.new.bank c.make.ensures.keeps c.poll_on-closed.ensures.keeps
@@ -32,7 +32,7 @@ pub returns-in_ok-ran-in-Opened-clause-runs : goal.returns-in_ok-ran-in-Opened-c
 returns-in_ok-ran-in-Opened-clause-runs g c =
     let makes = subst (λ (r : Reply). Makes c.args.caller c.args.op.now c.args.bank.now c.make.new.bank r []) c.in-Opened.is c.make.ensures in
     erase_closed g.T.Taker.takes c.args.caller c.args.op.now c.args.ran c.in_ok-ran-in-Opened.ran c.args.bank.now c.make.new.bank c.poll_on-closed.new.bank c.poll_on-closed.result
-    c.args.taker.now c.hand_on.new.taker c.hand_on-in-Opened.new.taker c.hand_on-in-Opened.result makes c.poll_on-closed.ensures.polls c.in_ok-ran-in-Opened.ensures c.hand_on-in-Opened.ensures
+    c.args.taker.now c.hand_on.new.taker c.hand_on-in-Opened.new.taker c.hand_on-in-Opened.result c.requires.opens makes c.poll_on-closed.ensures.polls c.in_ok-ran-in-Opened.ensures c.hand_on-in-Opened.ensures
 
 pub returns-in_ok-ran-in-Opened-clause-keeps : goal.returns-in_ok-ran-in-Opened-clause-keeps
 returns-in_ok-ran-in-Opened-clause-keeps g c = keeps_bank_then c.args.bank.now c.make.new.bank c.poll_on-closed.new.bank c.make.ensures.keeps c.poll_on-closed.ensures.keeps
@@ -41,6 +41,6 @@ pub returns-in_default : goal.returns-in_default
 returns-in_default g c = record {
   runs =
       erase_unopened g.T.Taker.takes c.args.caller c.args.op.now c.args.ran c.args.bank.now c.make.new.bank c.make.result c.args.taker.now c.hand_on-in_default.new.taker c.hand_on-in_default.result
-      c.in_default.not-Opened c.make.ensures c.hand_on-in_default.ensures;
+      c.requires.opens c.in_default.not-Opened c.make.ensures c.hand_on-in_default.ensures;
   keeps = c.make.ensures.keeps;
 }

@@ -1,14 +1,9 @@
 use Rattle.std.proofs.Common.{ap, refl}
-use Rattle.norbank.specs.Words.{Drill, Unknown, asked_by, quietly}
-use Rattle.norbank.specs.declared.stop.Stop.TheVariants.{Usage, NotBuilt}
+use Rattle.norbank.specs.Words.{Unknown, asked_by, quietly}
+use Rattle.norbank.specs.declared.stop.Stop.TheVariants.{Usage}
 use Rattle.norbank.specs.declared.words.Command.{Command}
 use Rattle.norbank.proofs.Doing.{refused}
 use Rattle.norbank.proofs.quiet.obey.Goals as goal
-
-pub returns-in-Drill-clause-does : goal.returns-in-Drill-clause-does
-returns-in-Drill-clause-does g c =
-    refused (quietly (asked_by c.args.command)) Drill (g.H.Shelf.state c.args.shelf.now) (g.K.Sink.state c.args.out.now) NotBuilt
-    (ap (λ (o : Command). quietly (asked_by o)) c.in-Drill.is) (λ bank script. refl)
 
 pub returns-in-Race-clause-does : goal.returns-in-Race-clause-does
 returns-in-Race-clause-does g c =

@@ -1,7 +1,7 @@
 use Rattle.std.proofs.Common.{◌∙◌, refl, ap, codes, List, ℕ}
 use Rattle.norbank.specs.Text.{line_of}
 use Rattle.norbank.specs.Words.{asked_by}
-use Rattle.norbank.specs.declared.stop.Stop.TheVariants.{Usage, Absent, TooLarge, ReadFault, WriteFault, OutOfRange, NotBuilt}
+use Rattle.norbank.specs.declared.stop.Stop.TheVariants.{Usage, Absent, TooLarge, ReadFault, WriteFault, OutOfRange}
 use Rattle.norbank.proofs.Putting.{tells_as}
 use Rattle.norbank.proofs.telling.tell_stop.Goals as goal
 
@@ -37,8 +37,3 @@ pub returns-in-OutOfRange-clause-tells : goal.returns-in-OutOfRange-clause-tells
 returns-in-OutOfRange-clause-tells g c =
     tells_as (asked_by c.args.command) c.args.stop OutOfRange c.status-code.result c.say-in-OutOfRange.result.code _
     (g.K.Sink.state c.args.out.now) (g.K.Sink.state c.say-in-OutOfRange.new.out) c.in-OutOfRange.is c.status-code.ensures refl c.say-in-OutOfRange.ensures.says
-
-pub returns-in-NotBuilt-clause-tells : goal.returns-in-NotBuilt-clause-tells
-returns-in-NotBuilt-clause-tells g c =
-    tells_as (asked_by c.args.command) c.args.stop NotBuilt c.status-code.result c.say-in-NotBuilt.result.code _
-    (g.K.Sink.state c.args.out.now) (g.K.Sink.state c.say-in-NotBuilt.new.out) c.in-NotBuilt.is c.status-code.ensures refl c.say-in-NotBuilt.ensures.says
