@@ -66,7 +66,7 @@ offers : (set : Set) → has_locks (table_of set) ≡ true
 offers Intel = refl
 offers Amd = refl
 
-not_both : (b : Bool) → b ≡ true → b ≡ false → ⊥
+pub not_both : (b : Bool) → b ≡ true → b ≡ false → ⊥
 not_both b h k = cc
 
 letters : (set : Set) → HasQry (table_of set)

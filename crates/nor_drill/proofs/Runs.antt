@@ -30,6 +30,8 @@ use Rattle.nor_run.proofs.Reporting.{is_run}
 use Rattle.nor_script.specs.Answering.{AnswersLines}
 use Rattle.nor_script.specs.Script.{IsScript}
 use Rattle.nor_script.specs.declared.line.Line.{Line}
+use Rattle.nor_cell.proofs.Logic.{not_passed}
+use Rattle.nor_drill.proofs.Banks.{not_both}
 use Rattle.nor_drill.specs.Drill.{drawn, later, data_of, line_of, drawn_lines, unlock_line, unlock_lines, drill_lines, drill_chip, chips_of_set, drill_chips, drill_set}
 use Rattle.nor_drill.specs.Drilled.{IsDrilled, DrillRun, Summarizes, Drills}
 use Rattle.nor_drill.specs.Summary.{Counts, no_counts, sum_of, summary_text}
@@ -117,17 +119,10 @@ unstuck : (set : Set) → has_stuck (chips_of_set set) ≡ false
 unfolding drill_chip
 unstuck set = refl
 
-not_both : (b : Bool) → b ≡ true → b ≡ false → ⊥
-not_both b h k = cc
-
 never : (n : ℕ) (chips : List ChipState) → chips ≡ drill_chips n → MayHalt (drill_lines n) chips → ⊥
 never n chips is (inl cut) = not_both (has_cut (drill_lines n)) cut (uncut n)
 never n chips is (inr stuck) =
     not_both (has_stuck chips) stuck (ap (λ (l : List ChipState). has_stuck l) is ∙ unstuck (drill_set n))
-
-halt_or_not : (b : Bool) → (b ≡ true → ⊥) → b ≡ false
-halt_or_not true never_so = absurd (never_so refl)
-halt_or_not false never_so = refl
 
 -- the drill of a number
 pub is_run_of : (n : ℕ) (old new : BusState) (history : List Entry) → old.lanes ≡ drill_chips n → AllLanes HasLetters old
@@ -137,7 +132,7 @@ is_run_of n old new history bank letters runs = record {
   bank = bank;
   letters = letters;
   runs = runs;
-  goes_on = halt_or_not (has_halt history) (λ halts.
+  goes_on = not_passed (has_halt history) (λ halts.
       never n old.lanes bank (legally_caused false (drill_lines n) old new runs.found history (runs.legal letters) runs.answers halts));
 }
 

@@ -7,6 +7,7 @@ use Rattle.std.proofs.lemmas.List.{length-set, length-replicate, get_or-replicat
 use Rattle.std.proofs.lemmas.List.FromFn.{fill_by_all}
 use Rattle.nor_array.specs.declared.entry.Entry.{Entry}
 use Rattle.nor_run.specs.Taking.{TakesAll}
+use Rattle.nor_cell.proofs.Logic.{same_self}
 use Rattle.nor_drill.specs.Summary.{place_of_entry, count_of, no_counts, Counts, TalliesCount}
 
 -- one more where the entry counts there
@@ -18,9 +19,6 @@ with_one : (here : Bool) (e : Entry) (es : List Entry) → length (cond here (e 
 unfolding one_more
 with_one true e es = let one : suc (length es) ≡ 1 + length es = omega arith in one
 with_one false e es = let none : length es ≡ 0 + length es = omega arith in none
-
-same_place : (place : ℕ) → (place == place) ≡ true
-same_place place = grind arith
 
 other_place : (place k : ℕ) → (place ≡ k → ⊥) → (place == k) ≡ false
 other_place place k differ = grind arith
@@ -36,7 +34,7 @@ counted_at place k counts inside small = by_place (cases_eq place k)
         let low : min (slice_index counts k + 1) (2 ^ 64 - 1) ≡ 1 + slice_index counts k = omega (arith, small) in
         ap (λ (p : ℕ). slice_index (slice_set counts p (min (slice_index counts p + 1) (2 ^ 64 - 1))) k) is
         ∙ get_or-set_same counts k (min (slice_index counts k + 1) (2 ^ 64 - 1)) 0 inside ∙ low
-        ∙ sym (ap (λ (b : Bool). one_more b + slice_index counts k) (ap (λ (p : ℕ). p == k) is ∙ same_place k))
+        ∙ sym (ap (λ (b : Bool). one_more b + slice_index counts k) (ap (λ (p : ℕ). p == k) is ∙ same_self k))
     by_place (inr differ) =
         let none : slice_index counts k ≡ 0 + slice_index counts k = omega arith in
         get_or-set_other counts place k (min (slice_index counts place + 1) (2 ^ 64 - 1)) 0 (λ h. differ (sym h)) ∙ none

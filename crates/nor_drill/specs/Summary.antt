@@ -73,7 +73,8 @@ TalliesCount = (entries : List Entry) (counts : List ℕ) → TakesAll (Counts {
 abbrev pub count_lines : List (List ℕ) → List ℕ → List ℕ
 count_lines [] counts = []
 count_lines (word ∷ more) [] = []
-count_lines (word ∷ more) (count ∷ counts) = (word ++ codes " " ++ decimal count ++ codes "\n") ++ count_lines more counts
+count_lines (word ∷ more) (count ∷ counts) =
+    (word ++ codes " " ++ decimal count ++ codes "\n") ++ count_lines more counts
 
 abbrev pub summary_text : (n : ℕ) → (counts : List ℕ) → (sum : ℕ) → List ℕ
 summary_text n counts sum = codes "drill " ++ decimal n ++ codes "\nlines 4104\n"

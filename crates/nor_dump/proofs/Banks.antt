@@ -24,7 +24,8 @@ use Rattle.nor_dump.specs.Dump.{IsDumpOf}
 use Rattle.nor_dump.specs.Made.{CanMake, IsMade, made_chip, made_chips, chip_size}
 use Rattle.nor_dump.specs.declared.changes.Change.{Change}
 use Rattle.nor_dump.proofs.Chips.{length-made_chips, made_chip-at, made_byte, length-lane_cells}
-use Rattle.nor_dump.proofs.Sizes.{table_sized, size_fits, some_bytes, units_whole, place_at_below}
+use Rattle.nor_cell.proofs.Logic.{some_bytes}
+use Rattle.nor_dump.proofs.Sizes.{table_sized, size_fits, units_whole, place_at_below}
 
 -- ---- bytes one by one
 

@@ -1,4 +1,5 @@
 pub mod Banks
+pub mod Bars
 pub mod Chips
 pub mod Fits
 pub mod Sizes

@@ -57,12 +57,7 @@ size_fits table accepted =
     let rest : (nat_lt log 12 || nat_lt 27 log || 2 ^ log == 2 ^ log) ≡ true = grind (arith, nat_tests) in
     and_from (is_chip_size (2 ^ log)) (nat_lt log 12 || nat_lt 27 log || 2 ^ log == 2 ^ log) (table_sized table accepted) rest
 
--- a unit has some bytes, and a chip whole units
-pub some_bytes : (device : Device) → 0 < unit_len device
-some_bytes X8 = omega arith
-some_bytes X16 = omega arith
-some_bytes X16Byte = omega arith
-
+-- a chip has whole units
 pub units_whole : (device : Device) (size : ℕ) → size % 2 ≡ 0 → size ≡ size / unit_len device * unit_len device
 units_whole X8 size even = omega arith
 units_whole X16 size even = omega arith

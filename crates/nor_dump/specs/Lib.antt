@@ -1,4 +1,5 @@
 pub mod Changes
 pub mod Dump
 pub mod Made
+pub mod Survey
 pub mod Table

@@ -59,7 +59,8 @@ pub record CanMake (width : ℕ) (g : Geometry) (table : List ℕ) (changes : Li
 pub record IsMade (width : ℕ) (g : Geometry) (table : List ℕ) (changes : List Change) (raw file : List ℕ) : Type 0 where
   pub is_file : file ≡ file_of width (made_chips g table changes raw g.lanes)
   -- byte a of the bank is byte a of the dump
-  pub bytes : (a : ℕ) → a < length raw → bank_byte g.device (made_chips g table changes raw g.lanes) a ≡ slice_index raw a
+  pub bytes : (a : ℕ) → a < length raw
+      → bank_byte g.device (made_chips g table changes raw g.lanes) a ≡ slice_index raw a
   -- reading the file gives this bank
   pub image : IsImageOf file width (made_chips g table changes raw g.lanes)
   -- and a dump of the file gives the bytes again

@@ -74,8 +74,8 @@ fn loaded_bytes(alloc: Global, loaded: &Loaded) -> Result<Vec<u8>, NoMemory>
     with_bank!(loaded, bank => bank_bytes(alloc, bank))
 }
 
-// The bank of a file, which is given up.
-fn loaded_of(alloc: Global, file: Vec<u8>) -> Result<Loaded, ImageError>
+/// The bank of a file, which is given up.
+pub fn loaded_of(alloc: Global, file: Vec<u8>) -> Result<Loaded, ImageError>
     ensures image { IfOk result (λ loaded.
         IsImageOf file.items (loaded_width loaded) (bus_of loaded).lanes) }
     ensures wired { IfOk result (λ loaded.

@@ -17,10 +17,12 @@ mod bank;
 mod changes;
 mod dumping;
 mod lanes;
+mod survey;
 mod table;
 
 pub use bank::make_bank;
 pub use changes::{Change, ChangeError, Paces, check};
 pub use dumping::{dump, lane_table};
 pub use lanes::chip_len;
+pub use survey::{Bar, Survey, survey_of};
 pub use table::{TableError, table_of};

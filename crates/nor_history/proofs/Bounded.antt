@@ -31,9 +31,10 @@ use Rattle.nor_bank.specs.Work.{KeepsBank}
 use Rattle.nor_bank.specs.declared.kept.Erasing.{Erasing}
 use Rattle.nor_bank.proofs.Keeping.{keeps_self}
 use Rattle.nor_bank.proofs.Outlines.{refuses_as_array}
+use Rattle.nor_bank.proofs.RefusedCalls.{goes_on_self}
 use Rattle.nor_history.specs.Histories.{IsMadeBy, Makes}
 use Rattle.nor_history.specs.Bounds.{Step, entries_of, refused_most, asked_most, polls_most, waited_most, step_most, words_given, ReadsWords, SinceOpened, SinceArmed, Tally, opened_more, opened_after, armed_after, tally_after, tally_all, ClosesLate, WaitsFew, PollsToLimit, LosesLate, ReadsWithin, FitsOpened, FitsArmed, Fits, IsBounded, Bounded, Goes}
-use Rattle.nor_history.proofs.Bounds.{false_true, Spent, asked_lasts, words_last, limits_last, near_self, near_same, near_then, words_near, refused_spent, call_spent, call_opened, call_armed, opened_goes, erase_on, closes_late, waits_few, polls_below, polls_stuck, cut_due, reads_within}
+use Rattle.nor_history.proofs.Bounds.{false_true, Spent, asked_lasts, words_last, limits_last, near_same, near_then, words_near, refused_spent, call_spent, call_opened, call_armed, opened_goes, erase_on, closes_late, waits_few, polls_below, polls_stuck, cut_due, reads_within}
 use Rattle.nor_history.proofs.Histories.{is_refusal, refused_is, refused_goes_on}
 
 true_false : true ≡ false → ⊥
@@ -209,16 +210,12 @@ call_bounds caller op reply old new given a t waits w first x others call keeps 
 
 -- ---- arm, and power-on
 
-goes_self : (e : Option Erasing) → GoesOn 0 e e
-goes_self None = refl
-goes_self (Some e) = (refl, refl, omega arith)
-
 -- a call that leaves the lanes and the erase
 same_goes : (o : Option SinceOpened) (old new : BankState) (most : ℕ) → FitsOpened o old → KeepsBank old new → new.erase ≡ old.erase
     → ((c : ℕ) → erase_left (lane new.bus c) ≡ erase_left (lane old.bus c)) → FitsOpened (option_map (opened_more most 0 0) o) new
 same_goes None old new most fits keeps same left = tt
 same_goes (Some o) old new most fits keeps same left =
-    opened_goes o old new 0 most 0 0 fits keeps (subst (λ (e : Option Erasing). GoesOn 0 old.erase e) (sym same) (goes_self old.erase))
+    opened_goes o old new 0 most 0 0 fits keeps (subst (λ (e : Option Erasing). GoesOn 0 old.erase e) (sym same) (goes_on_self old.erase))
     (λ c below. let l = left c in (omega (arith, l), omega (arith, l))) (omega arith) (inl refl)
 
 own_opened : (op : Op) (reply : Reply) (old new : BankState) (most : ℕ) (waits : Bool) (o : Option SinceOpened) → is_own op ≡ true → is_refusal reply ≡ true → FitsOpened o old → KeepsBank old new
@@ -467,7 +464,7 @@ goes_one caller op old new reply given a t waits polls makes stands reads fits =
 
     other : (o : Op) → is_own o ≡ false → IsCallOf caller o old new reply given → ReadsWords o reply old new → goal o
     other o others call reads =
-        call_bounds caller o reply old new given a t waits 0 old.after old.bus.armed others call makes.keeps stands reads fits.opened fits.armed (near_self old.bus.armed) refl
+        call_bounds caller o reply old new given a t waits 0 old.after old.bus.armed others call makes.keeps stands reads fits.opened fits.armed (near_same 0 old.bus.armed old.bus.armed refl) refl
 
     by_op : (o : Op) → IsMadeBy caller o old new reply given → ReadsWords o reply old new → goal o
     by_op (Arm n m) call reads = own (Arm n m) call.0 (arms_bounds n m reply old new a t waits call.1 makes.keeps stands fits)

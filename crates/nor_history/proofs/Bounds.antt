@@ -64,10 +64,6 @@ limits_last b c op same = ap (λ (f : Found). limit_of f.query.times Block) (sym
 
 -- ---- a cut that comes nearer
 
-pub near_self : (x : Option Armed) → Nearer 0 0 x x
-near_self None = tt
-near_self (Some x) = (omega arith, omega arith, refl)
-
 pub near_same : (m : ℕ) (x y : Option Armed) → y ≡ x → Nearer 0 m x y
 near_same m x y same = subst (λ (z : Option Armed). Nearer 0 m x z) (sym same) (by_armed x)
   where

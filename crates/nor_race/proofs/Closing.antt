@@ -194,9 +194,6 @@ lines_close (line ∷ lines) es may answers awaited =
 
 -- ---- an erase that is under way
 
-test_false : (m n : ℕ) → (m == n) ≡ false → m ≡ n → ⊥
-test_false m n test same = grind (arith, test, same)
-
 own_first : (n : ℕ) (e : Entry) (es : List Entry) → (e.caller == n) ≡ true → entries_by n (e ∷ es) ≡ e ∷ entries_by n es
 own_first n e es is = ap (λ (b : Bool). cond b (e ∷ entries_by n es) (entries_by n es)) is
 

@@ -16,7 +16,7 @@ use Rattle.nor_race.specs.Teams.{team_of, teams_of}
 use Rattle.nor_race.specs.declared.task.Task.{Task}
 use Rattle.nor_race.specs.declared.team.Racer.{Racer}
 use Rattle.nor_race.proofs.Joining.{none_some, one_some, some_there, prefix_get, short_get, rest_get, later_get, all_get}
-use Rattle.nor_race.proofs.Working.{set_same, set_other, size_set}
+use Rattle.nor_race.proofs.Working.{last_there, set_same, set_other, size_set}
 
 -- ---- one of several lists
 
@@ -134,10 +134,6 @@ pub record PutTo (start left : List Task) (old now : List NoteView) : Type 0 whe
 pub put_none : (start : List Task) (table : List NoteView) → PutTo start start table table
 put_none start table = record { done = []; parts = sym (append-nil start); placed = placed_none table }
 
-last_at : {A : Type 0} (rest : List A) (x : A) → slice_get (rest ++ x ∷ []) (length rest) ≡ Some x
-last_at [] x = refl
-last_at (y ∷ rest) x = last_at rest x
-
 -- the notes of one of the tasks are among all
 in_told : (tasks : List Task) (j : ℕ) (task : Task) (x : Noted) → slice_get tasks j ≡ Some task → IsOneOf (noted_of task) x → IsOneOf (told_of tasks) x
 in_told [] j task x at one = none_some task at
@@ -154,7 +150,7 @@ pub task_within : (start left rest : List Task) (old now : List NoteView) (task 
     → All (λ (x : Noted). x.position < length now) (noted_of task)
 task_within start left rest old now task so is within =
     let there : slice_get start (length rest) ≡ Some task =
-    ap (λ (l : List Task). slice_get l (length rest)) so.parts ∙ prefix_get left so.done (length rest) task (ap (λ (l : List Task). slice_get l (length rest)) is ∙ last_at rest task) in
+    ap (λ (l : List Task). slice_get l (length rest)) so.parts ∙ prefix_get left so.done (length rest) task (ap (λ (l : List Task). slice_get l (length rest)) is ∙ last_there rest task) in
     one_all (noted_of task) (length now) (λ x one. let below = all_one (told_of start) (length old) within x (in_told start (length rest) task x there one) in let size = so.placed.size in omega (arith, below, size))
 
 -- of a task, the close is put first
@@ -196,7 +192,7 @@ module _ {W B : Type 0} where
       → All (λ (x : Noted). x.position < length old) (all_of (teams_of start)) → All (λ (x : Noted). x.position < length now) (told_of r.tasks.items)
   racer_within start left rest old now r so is within =
       let there : slice_get start (length rest) ≡ Some r =
-      ap (λ (l : List (Racer W B)). slice_get l (length rest)) so.parts ∙ prefix_get left so.done (length rest) r (ap (λ (l : List (Racer W B)). slice_get l (length rest)) is ∙ last_at rest r) in
+      ap (λ (l : List (Racer W B)). slice_get l (length rest)) so.parts ∙ prefix_get left so.done (length rest) r (ap (λ (l : List (Racer W B)). slice_get l (length rest)) is ∙ last_there rest r) in
       one_all (told_of r.tasks.items) (length now) (λ x one.
       let place = all_one (all_of (teams_of start)) (length old) within x (in_all (teams_of start) (length rest) (team_of r) x (team_there start (length rest) r there) one) in
       let size = so.placed.size in

@@ -25,7 +25,8 @@ KeepOrder lines notes =
 pub record RacesOn (lines : List Line) (armed new : BankState) (notes : List NoteView) : Type 0 where
   pub front : Front Entry
   pub stands : StandsFor armed front new
-  pub answers : (cuts : List Entry) → AnswersLines (lines_by 0 lines) cuts → AnswersRace lines (cuts ++ entries_of front)
+  pub answers : (cuts : List Entry) → AnswersLines (lines_by 0 lines) cuts
+      → AnswersRace lines (cuts ++ entries_of front)
   pub told : AreTold lines notes (entries_of front)
   pub some : (k : ℕ) (note : NoteView) (line : Line) → slice_get notes k ≡ Some note
       → slice_get lines note.line ≡ Some line → 0 < line.caller

@@ -27,9 +27,9 @@ use Rattle.nor_bank.specs.State.{BankState, erase_limit}
 use Rattle.nor_bank.specs.Whole.{IsCallOf}
 use Rattle.nor_bank.specs.Work.{range_refusal, words_in, KeepsBank}
 use Rattle.nor_bank.specs.declared.kept.Erasing.{Erasing}
-use Rattle.nor_history.specs.Bounds.{ReadsWords, Tally, Fits, Goes, polls_most, steps_as, step_most, opened_after, tally_after}
+use Rattle.nor_history.specs.Bounds.{ReadsWords, Tally, Fits, Goes, polls_most, steps_as, tally_after}
 use Rattle.nor_history.proofs.Bounded.{goes_one, goes_then, goes_waited}
-use Rattle.nor_history.proofs.Bounds.{asked_near, near_self, near_then, near_within}
+use Rattle.nor_history.proofs.Bounds.{asked_near, near_same, near_then, near_within}
 use Rattle.nor_history.proofs.Histories.{leads_one, leads_then, leads_waiting}
 use Rattle.nor_bank.proofs.Keeping.{keeps_call, keeps_bank_then}
 use Rattle.nor_probe.specs.declared.probing.Found.{Found}
@@ -188,10 +188,6 @@ made_runs takes old new caller op ran reply before after result other makes hand
   hands = hands_on_as takes ran _ (entry_of old new caller op reply []) before after result (told_made old new caller op reply) refl hands;
 }
 
--- what isn't refused is short
-pub fits_call : (size at len : ℕ) → None ≡ range_refusal size at len → len ≤ 4096
-fits_call size at len none = grind (arith, none)
-
 -- as the line has it
 pub of_call : {T E : Type 0} {takes : Takes T E} {caller : ℕ} {ran : Ran} {old new : BankState} {before after : T} {result : Result Ran E} (o p : Op)
     → p ≡ o → RunsCall takes caller o ran old new before after result → RunsCall takes caller p ran old new before after result
@@ -295,7 +291,7 @@ pub record PollsNear (first now : BankState) : Type 0 where
   pub after : now.after ≡ first.after
 
 pub near_none : (b : BankState) → PollsNear b b
-near_none b = record { spent = 0; few = omega arith; near = near_self b.bus.armed; after = refl }
+near_none b = record { spent = 0; few = omega arith; near = near_same 0 b.bus.armed b.bus.armed refl; after = refl }
 
 pub near_more : (caller : ℕ) (first old new : BankState) (reply : Reply) → PollsNear first old → Makes caller Poll old new reply [] → polls_left new < polls_left old → PollsNear first new
 near_more caller first old new reply so makes fewer =
@@ -353,12 +349,6 @@ both_lead caller op old mid new opening reply makes polls a stands =
     let waited = leads_then (e ∷ []) [] old mid polls.mid a makes.keeps first (polls.waits _ first.stands) in
     leads_then (e ∷ []) (entry_of polls.mid new caller Poll reply [] ∷ []) old polls.mid new a (keeps_bank_then old mid polls.mid makes.keeps polls.keeps) waited
     (leads_one caller Poll polls.mid new reply [] _ polls.last waited.stands)
-
--- the opening of an erase that a line waits for isn't counted on
-opened_none : (b : BankState) (a : ArrayState) (t : Tally) (op : Op) (e : Entry) → e.op ≡ op → e.reply ≡ Opened
-    → (tally_after b a t (record { entry = e; waits = true })).opened ≡ None
-opened_none b a t op e is opened =
-    ap (λ (r : Reply). opened_after (step_most b a (record { entry = e; waits = true })) true e.op r t.opened) opened
 
 both_go : (caller : ℕ) (op : Op) (old mid new : BankState) (reply : Reply) → (needs_of op).opens ≡ true → Makes caller op old mid Opened [] → (polls : PollsOn caller mid new reply) → (a : ArrayState) → Stands old a
     → (t : Tally) → Fits t old → Goes (steps_as true (entry_of old mid caller op Opened [] ∷ entry_of polls.mid new caller Poll reply [] ∷ [])) old new a t

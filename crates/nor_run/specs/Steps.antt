@@ -18,11 +18,14 @@ waits_for word = true
 abbrev pub AreStepsOf : List Line → List Step → Type 0
 AreStepsOf [] steps = steps ≡ []
 AreStepsOf (line ∷ lines) steps =
-    (first : List Entry) × (rest : List Step) × (steps ≡ steps_as (waits_for line.word) first ++ rest)
+    (first : List Entry) × (rest : List Step)
+    × (steps ≡ steps_as (waits_for line.word) first ++ rest)
     × AnswersWord line.word line.caller first × AreStepsOf lines rest
 
--- As steps of the lines the entries keep the bounds, behind what was counted, and what is then counted fits the bank.
-pub record GoesBy (lines : List Line) (es : List Entry) (old new : BankState) (a : ArrayState) (t : Tally) : Type 0 where
+-- As steps of the lines the entries keep the bounds, behind what was counted, and what is then counted fits the
+-- bank.
+pub record GoesBy (lines : List Line) (es : List Entry) (old new : BankState) (a : ArrayState) (t : Tally)
+    : Type 0 where
   pub steps : List Step
   pub entries : entries_of steps ≡ es
   pub of : AreStepsOf lines steps

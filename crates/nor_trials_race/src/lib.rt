@@ -10,3 +10,5 @@ mod erases;
 mod races;
 #[cfg(test)]
 mod turns;
+#[cfg(test)]
+mod using;

@@ -1,5 +1,5 @@
 -- What was put, once the output has passed it on.
-use Rattle.std.proofs.Common.{◌≡◌, ◌≤◌, ◌∙◌, inl, inr, ◌++◌, ◌∷◌, ℕ, List, [], length, Bool, true, false, Option, Result, Ok, Err, refl, sym, ap, subst, arith, append-nil}
+use Rattle.std.proofs.Common.{◌≡◌, ◌≤◌, ◌∙◌, inl, inr, ◌++◌, ◌∷◌, ℕ, List, [], length, Bool, Option, Result, Ok, Err, refl, sym, ap, subst, arith, append-nil}
 use Rattle.std.proofs.lemmas.List.{take_all}
 use Rattle.nor_bus.specs.Bus.{BusState}
 use Rattle.nor_io.specs.Files.{ShelfState, SinkState, Appends, AppendsPart}
@@ -8,11 +8,11 @@ use Rattle.nor_io.specs.declared.sink.SinkError.{SinkError}
 use Rattle.nor_io.specs.declared.sink.SinkError.TheVariants.{Fault, NoMemory}
 use Rattle.nor_io.proofs.Pieces.{Appends-append, AppendsPart-append}
 use Rattle.nor_io.proofs.Putting.{puts_then, rose_later}
-use Rattle.nor_run.specs.Running.{IsCount}
 use Rattle.nor_run.specs.Scripts.{IsRunOf, RunsImage, RunsPartly}
 use Rattle.nor_run.specs.declared.lines.Ran.{Ran}
 use Rattle.nor_run.proofs.Taking.{part_put}
 use Rattle.nor_script.specs.declared.line.Line.{Line}
+use Rattle.norbank.proofs.Parts.{every_count}
 use Rattle.norbank.specs.AsAsked.{IsScript}
 use Rattle.norbank.specs.Does.{Answers, Does, Prints, of_put}
 use Rattle.norbank.specs.Endings.{Says, Tells, status_of}
@@ -78,10 +78,6 @@ printed_out command was now before mid after done r quiet later out (inr works) 
 
 -- ---- a report
 
-count_all : (race : Bool) (lines : List Line) → IsCount race lines (length lines)
-count_all false lines = tt
-count_all true lines = refl
-
 pub report_out : (race : Bool) (width : ℕ) (lines : List Line) (bus : BusState) (before mid after : SinkState) (ran : Ran) (file : List ℕ) → Appends mid.taken [] after.taken
     → RunsImage race width lines bus before mid ran file → RunsImage race width lines bus before after ran file
 report_out race width lines bus before mid after ran file out is = record {
@@ -105,7 +101,7 @@ report_kept race width lines bus before mid after ran file e out is = (
   record {
     history = is.runs.history;
     count = length lines;
-    all = count_all race lines;
+    all = every_count race lines;
     runs = subst (λ (ls : List Line). IsRunOf race width ls bus is.new is.runs.history) (sym (take_all (length lines) lines (omega arith))) is.runs.runs;
     whole = _;
     due = inr (omega arith, refl);

@@ -32,7 +32,7 @@ prints_part : (text : List ℕ) (was now : ShelfState) (before after : SinkState
     → AppendsPart before.taken text after.taken
 prints_part text was now before after stop prints = put_part text before after prints.put stop prints.puts prints.is
 
-every_count : (race : Bool) (lines : List Line) → IsCount race lines (length lines)
+pub every_count : (race : Bool) (lines : List Line) → IsCount race lines (length lines)
 every_count false lines = tt
 every_count true lines = refl
 

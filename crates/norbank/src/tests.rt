@@ -98,7 +98,8 @@ fn expect(
     Ok(())
 }
 
-// A bank, bytes of its file that are others, words, and the status and the text with which they end.
+// A bank, bytes of its file that are others, words, and the status and the text with which they
+// end.
 type Row = (Bank, Bytes, &'static [&'static str], u8, &'static [u8]);
 
 const SHOW: &[&str] = &["show", "bank"];

@@ -1,3 +1,4 @@
+pub mod Drawings
 pub mod Making
 pub mod Shelves
 pub mod WordLemmas

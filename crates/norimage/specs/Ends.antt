@@ -1,15 +1,18 @@
 -- How a command ends.
-use Rattle.std.specs.Prelude.{◌≡◌, ◌≤◌, ◌⊎◌, ◌*◌, ◌^◌, length, ℕ, List, Option, Some, None, IfSome}
+use Rattle.std.specs.Prelude.{◌≡◌, ◌≤◌, ◌⊎◌, ◌*◌, ◌^◌, [], length, ℕ, List, Option, Some, None, IfSome}
 use Rattle.nor_cell.specs.declared.geometry.Geometry.{Geometry}
 use Rattle.nor_dump.specs.Dump.{IsDumpOf, IsTableOf}
 use Rattle.nor_dump.specs.Made.{chip_size, IsMade}
+use Rattle.nor_dump.specs.Survey.{IsSurveyOf}
 use Rattle.nor_dump.specs.Table.{table_of}
 use Rattle.nor_dump.specs.declared.changes.Change.{Change}
+use Rattle.nor_dump.specs.declared.survey.Survey.{Survey}
 use Rattle.nor_io.specs.Files.{ShelfState, SinkState, FileMap, Rose, HasFile, IsAbsent, IsTooLarge, Saves}
+use Rattle.norimage.specs.Drawn.{IsDrawingOf}
 use Rattle.norimage.specs.Endings.{Tells}
 use Rattle.norimage.specs.Options.{changes_of}
-use Rattle.norimage.specs.Stops.{stop_of, bytes_in, changes_in, dump_in, first_some, table_stops, raw_stops, bank_stops}
-use Rattle.norimage.specs.Words.{Asked, Make, Raw, Table, Unknown, name_of, out_of}
+use Rattle.norimage.specs.Stops.{stop_of, bytes_in, changes_in, dump_in, first_some, image_stops, table_stops, raw_stops, bank_stops}
+use Rattle.norimage.specs.Words.{Asked, Make, Raw, Table, Draw, Unknown, name_of, out_of}
 use Rattle.norimage.specs.declared.stop.File.{File}
 use Rattle.norimage.specs.declared.stop.File.TheVariants.{Raw as RawFile}
 use Rattle.norimage.specs.declared.stop.Stop.{Stop}
@@ -34,12 +37,13 @@ abbrev pub first_of : Asked → FileMap → Option (List ℕ)
 first_of (Make out width device lanes table raw options) files = files table
 first_of (Raw image out) files = files image
 first_of (Table image lane out) files = files image
+first_of (Draw image out) files = files image
 first_of Unknown files = None
 
 abbrev pub second_of : Asked → FileMap → Option (List ℕ)
 second_of command files = files (name_of command RawFile)
 
--- The bytes answer the command: the image of the bank that is made, all bytes of a bank, the table of a lane.
+-- The bytes answer the command: the image of the bank that is made, all bytes of a bank, the table of a lane, a drawing.
 abbrev pub Answers : Asked → (first second bytes : List ℕ) → Type 0
 Answers (Make out width device lanes table_name raw_name options) table raw bytes =
     let g : Geometry = record { lanes = lanes; device = device } in
@@ -47,6 +51,7 @@ Answers (Make out width device lanes table_name raw_name options) table raw byte
     IsMade width g (table_of table) (changes_in (changes_of options)) dumped bytes
 Answers (Raw name out) image second bytes = IsDumpOf image bytes
 Answers (Table name lane out) image second bytes = IsTableOf image lane (Some bytes)
+Answers (Draw name out) image second bytes = IsDrawingOf image bytes
 Answers Unknown first second bytes = ⊥
 
 -- Where the files are told: nothing is wrong with them, and the bytes answer the command.
@@ -72,6 +77,13 @@ StopsBy wrong was now stop = IfSome was.files (λ files. wrong files ≡ Some st
 -- the first thing that is wrong, in the order of work
 abbrev pub Stops : Asked → (was now : ShelfState) → Stop → Type 0
 Stops command was now stop = StopsBy (λ files. stop_of command (first_of command files) (second_of command files)) was now stop
+
+-- ---- what is told of files
+
+-- Nothing is wrong with the image, and this is told of its bank.
+pub record IsToldIn (name : List ℕ) (survey : Survey) (files : FileMap) : Type 0 where
+  pub free : first_some (image_stops (files name) []) ≡ None
+  pub is : IsSurveyOf (bytes_in (files name)) survey
 
 -- ---- what `make` makes of files
 

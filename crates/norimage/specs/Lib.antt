@@ -1,3 +1,4 @@
+pub mod Drawn
 pub mod Endings
 pub mod Ends
 pub mod Options

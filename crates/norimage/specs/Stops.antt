@@ -10,7 +10,7 @@ use Rattle.nor_dump.specs.Table.{table_of, table_error}
 use Rattle.nor_dump.specs.declared.changes.Change.{Change}
 use Rattle.nor_image.specs.Image.{image_refusal, lanes_of_file}
 use Rattle.norimage.specs.Options.{changes_of}
-use Rattle.norimage.specs.Words.{Asked, Make, Raw, Table, Unknown}
+use Rattle.norimage.specs.Words.{Asked, Make, Raw, Table, Draw, Unknown}
 use Rattle.norimage.specs.declared.stop.File.{File}
 use Rattle.norimage.specs.declared.stop.File.TheVariants.{Image, Table as TableFile, Raw as RawFile}
 use Rattle.norimage.specs.declared.stop.Stop.{Stop}
@@ -83,6 +83,7 @@ stops_of (Make out width device lanes table_name raw_name options) table raw =
 stops_of (Raw name out) image second = image_stops image []
 stops_of (Table name lane out) image second =
     image_stops image (when (not (nat_lt lane (lanes_of_file (bytes_in image)))) NoLane ∷ [])
+stops_of (Draw name out) image second = image_stops image []
 stops_of Unknown first second = Some Usage ∷ []
 
 abbrev pub stop_of : Asked → (first second : Option (List ℕ)) → Option Stop

@@ -51,7 +51,7 @@ too_large Raw = codes "raw: too large\n"
 
 -- the text of what stops a command
 abbrev pub text_of : Asked → Stop → List ℕ
-text_of command Usage = codes "usage: norimage make OUT WIDTH DEVICE LANES TABLE RAW [--paces P E S] [--weak LANE PLACE] [--stuck LANE], raw IMAGE OUT, table IMAGE LANE OUT\n"
+text_of command Usage = codes "usage: norimage make OUT WIDTH DEVICE LANES TABLE RAW [--paces P E S] [--weak LANE PLACE] [--stuck LANE], raw IMAGE OUT, table IMAGE LANE OUT, draw IMAGE OUT\n"
 text_of command BadWiring = codes "wiring: none of the nine\n"
 text_of command (BadImage error) = image_text error
 text_of command (BadTable error) = table_text error

@@ -8,14 +8,15 @@ use Rattle.nor_script.specs.Numbers.{number_of}
 use Rattle.norimage.specs.declared.stop.File.{File}
 use Rattle.norimage.specs.declared.stop.File.TheVariants.{Image, Table as TableFile, Raw as RawFile}
 use Rattle.norimage.specs.declared.words.Command.{Command}
-use Rattle.norimage.specs.declared.words.Command.TheVariants.{Make as MakeImage, Raw as TakeRaw, Table as TakeTable, Unknown as NoForm}
+use Rattle.norimage.specs.declared.words.Command.TheVariants.{Make as MakeImage, Raw as TakeRaw, Table as TakeTable, Draw as DrawBank, Unknown as NoForm}
 
--- What the words ask for: the image of a bank, made of a table and a dump; the bytes of a bank; the query table of a lane.
+-- What the words ask for: the image of a bank, made of a table and a dump; the bytes of a bank; the query table of a lane; a drawing.
 -- Names are bytes.
 pub data Asked : Type 0 where
   Make : (out : List ℕ) (width : ℕ) (device : Device) (lanes : ℕ) (table raw : List ℕ) (options : List (String Global)) → Asked
   Raw : (image out : List ℕ) → Asked
   Table : (image : List ℕ) (lane : ℕ) (out : List ℕ) → Asked
+  Draw : (image out : List ℕ) → Asked
   Unknown : Asked
 
 -- what a command of the program asks for
@@ -23,6 +24,7 @@ abbrev pub asked_by : Command → Asked
 asked_by (MakeImage out width device lanes table raw options) = Make out.now width device lanes table.now raw.now options.now
 asked_by (TakeRaw image out) = Raw image.now out.now
 asked_by (TakeTable image lane out) = Table image.now lane out.now
+asked_by (DrawBank image out) = Draw image.now out.now
 asked_by NoForm = Unknown
 
 -- the name of one of the files that it reads; empty where it has none
@@ -36,6 +38,9 @@ name_of (Raw image out) RawFile = []
 name_of (Table image lane out) Image = image
 name_of (Table image lane out) TableFile = []
 name_of (Table image lane out) RawFile = []
+name_of (Draw image out) Image = image
+name_of (Draw image out) TableFile = []
+name_of (Draw image out) RawFile = []
 name_of Unknown file = []
 
 -- the name of the file that it writes
@@ -43,6 +48,7 @@ abbrev pub out_of : Asked → List ℕ
 out_of (Make out width device lanes table raw options) = out
 out_of (Raw image out) = out
 out_of (Table image lane out) = out
+out_of (Draw image out) = out
 out_of Unknown = []
 
 -- the text of a word
@@ -90,4 +96,5 @@ asked words =
     if nat_lt 6 (length words) && bytes_eq (word_at words 0) (codes "make") then make_of words
     else if is_form words 3 (codes "raw") then Raw (word_at words 1) (word_at words 2)
     else if is_form words 4 (codes "table") then table_of (word_at words 1) (byte_of (word_at words 2)) (word_at words 3)
+    else if is_form words 3 (codes "draw") then Draw (word_at words 1) (word_at words 2)
     else Unknown

@@ -9,8 +9,10 @@
 //! numbers are those of nor_script, refusals of a query table those of nor_show.
 #![tactic(auto)]
 
+mod drawing;
 mod options;
 mod program;
+mod shapes;
 mod stop;
 mod telling;
 #[cfg(test)]

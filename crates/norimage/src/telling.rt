@@ -20,7 +20,7 @@ pub struct Status {
 }
 
 const USAGE: &str =
-    "usage: norimage make OUT WIDTH DEVICE LANES TABLE RAW [--paces P E S] [--weak LANE PLACE] [--stuck LANE], raw IMAGE OUT, table IMAGE LANE OUT\n";
+    "usage: norimage make OUT WIDTH DEVICE LANES TABLE RAW [--paces P E S] [--weak LANE PLACE] [--stuck LANE], raw IMAGE OUT, table IMAGE LANE OUT, draw IMAGE OUT\n";
 
 // Why no bank is made of a file.
 fn image_text(alloc: Global, error: ImageError) -> Result<String, NoMemory>

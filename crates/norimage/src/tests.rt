@@ -92,7 +92,7 @@ type Row = (&'static [&'static str], u8, &'static [u8]);
 
 const MAKE: &[&str] = &["make", "bank", "2", "x8", "2", "wide", "raw"];
 
-const STOPS: [Row; 9] = [
+const STOPS: [Row; 10] = [
     (
         &["make", "bank", "2", "x8", "3", "table", "raw"],
         10,
@@ -134,6 +134,7 @@ const STOPS: [Row; 9] = [
     ),
     (&["raw", "table", "out"], 3, b"image: bad magic\n"),
     (&["table", "none", "0", "out"], 8, b"absent none\n"),
+    (&["draw", "raw", "out"], 3, b"image: bad magic\n"),
 ];
 
 #[test]
@@ -170,5 +171,24 @@ fn there_and_back(rt: HostRuntime) -> Result<(), Fail> {
         10,
         b"lane: not in the bank\n",
     )?;
+    Ok(())
+}
+
+// How the drawing of an erased bank of two lanes begins: its first blocks.
+const DRAWN: &[u8] = b"<svg xmlns=\"http://www.w3.org/2000/svg\" width=\"1030\" height=\"252\">\
+<rect width=\"100%\" height=\"100%\" fill=\"#fff\"/>\n<desc>\n\
+from block 0, 1 in all: 2048 units erased\nfrom block 1, 1 in all: 2048 units erased, weak\n";
+
+#[test]
+fn drawn(rt: HostRuntime) -> Result<(), Fail> {
+    let alloc = rt.alloc();
+    let mut shelf = shelf(alloc, &[])?;
+    let make: &[&str] = &[
+        "make", "bank", "2", "x8", "2", "table", "-", "--weak", "1", "1024",
+    ];
+    expect(&rt, alloc, &mut shelf, make, 0, b"")?;
+    expect(&rt, alloc, &mut shelf, &["draw", "bank", "out"], 0, b"")?;
+    let svg = shelf.load(alloc, "out").unwrap_or(Vec::new(alloc));
+    assert!(rt; svg.starts_with(DRAWN));
     Ok(())
 }

@@ -30,6 +30,11 @@ pub enum Command<'a> {
         lane: u8,
         out: &'a str,
     },
+    /// A drawing of a bank.
+    Draw {
+        image: &'a str,
+        out: &'a str,
+    },
     Unknown,
 }
 
@@ -52,6 +57,10 @@ impl<'a> Command<'a> {
                 File::Image => image,
                 _ => "",
             },
+            Command::Draw { image, .. } => match file {
+                File::Image => image,
+                _ => "",
+            },
             Command::Unknown => "",
         }
     }
@@ -64,6 +73,7 @@ impl<'a> Command<'a> {
             Command::Make { out, .. } => out,
             Command::Raw { out, .. } => out,
             Command::Table { out, .. } => out,
+            Command::Draw { out, .. } => out,
             Command::Unknown => "",
         }
     }
@@ -154,6 +164,12 @@ pub fn command_of<'a>(words: &'a [String]) -> Command<'a>
     }
     if is_form(words, 4, "table") {
         return table_of(word(words, 1), byte_of(word(words, 2)), word(words, 3));
+    }
+    if is_form(words, 3, "draw") {
+        return Command::Draw {
+            image: word(words, 1),
+            out: word(words, 2),
+        };
     }
     Command::Unknown
 }

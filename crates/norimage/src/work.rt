@@ -4,16 +4,17 @@ ghost use Rattle.std.specs.Option.{option_map};
 ghost use Rattle.nor_cell.specs.Wiring.{is_wiring};
 ghost use Rattle.nor_dump.specs.Changes.{change_error};
 ghost use Rattle.nor_query.specs.Checks.{first_error};
-ghost use Rattle.norimage.specs.Ends.{FailsLoad, IsLoaded, Gives, Stops, StopsBy, IsTableIn, IsRawIn, IsMadeIn};
+ghost use Rattle.norimage.specs.Ends.{FailsLoad, IsLoaded, Gives, Stops, StopsBy, IsTableIn, IsRawIn, IsMadeIn, IsToldIn};
 ghost use Rattle.norimage.specs.Options.{changes_of as changes_in};
 ghost use Rattle.norimage.specs.Stops.{first_some, table_stops, raw_stops, bank_stops};
-ghost use Rattle.norimage.specs.Words.{Make as MakeAsked, Raw as RawAsked, Table as TableAsked, asked_by};
+ghost use Rattle.norimage.specs.Words.{Make as MakeAsked, Raw as RawAsked, Table as TableAsked, Draw as DrawAsked, asked_by};
 
+use crate::drawing;
 use crate::options::changes_of;
 use crate::stop::{File, Stop};
 use crate::words::Command;
 use nor_cell::{Device, Geometry, make_geometry};
-use nor_dump::{Change, check, chip_len, dump, lane_table, make_bank, table_of};
+use nor_dump::{Change, Survey, check, chip_len, dump, lane_table, make_bank, survey_of, table_of};
 use nor_io::Shelf;
 use std::alloc::Global;
 
@@ -63,6 +64,38 @@ fn table<H: Shelf>(alloc: Global, image: &str, lane: u8, shelf: &mut H) -> Resul
         },
         Ok(None) => Err(Stop::NoLane),
         Err(error) => Err(Stop::of_image(error)),
+    }
+}
+
+// The survey of the bank that the file under a name stands for.
+fn survey<H: Shelf>(alloc: Global, image: &str, shelf: &mut H) -> Result<Survey, Stop>
+    ensures told { IfOk result (λ survey. IfSome (H.state shelf.old).files (IsToldIn image.now survey)) }
+    ensures few { IfOk result (λ survey. length survey.bars.items ≤ 512) }
+    ensures stops { IfErr result (λ stop. (out : List ℕ)
+        → Stops (DrawAsked image.now out) (H.state shelf.old) (H.state shelf.new) stop) }
+    ensures same { (H.state shelf.new).files ≡ (H.state shelf.old).files }
+    ensures later { (H.state shelf.old).faults ≤ (H.state shelf.new).faults }
+{
+    let file = load(alloc, File::Image, image, shelf)?;
+    match survey_of(alloc, file) {
+        Ok(survey) => Ok(survey),
+        Err(error) => Err(Stop::of_image(error)),
+    }
+}
+
+/// A drawing of that bank.
+fn draw<H: Shelf>(alloc: Global, image: &str, shelf: &mut H) -> Result<Vec<u8>, Stop>
+    ensures gives { IfOk result (λ bytes. (out : List ℕ)
+        → Gives (DrawAsked image.now out) bytes.items (H.state shelf.old)) }
+    ensures stops { IfErr result (λ stop. (out : List ℕ)
+        → Stops (DrawAsked image.now out) (H.state shelf.old) (H.state shelf.new) stop) }
+    ensures same { (H.state shelf.new).files ≡ (H.state shelf.old).files }
+    ensures later { (H.state shelf.old).faults ≤ (H.state shelf.new).faults }
+{
+    let survey = survey(alloc, image, shelf)?;
+    match drawing::draw(alloc, &survey) {
+        Ok(svg) => Ok(svg),
+        Err(_) => Err(Stop::NoMemory),
     }
 }
 
@@ -213,6 +246,7 @@ pub fn work<H: Shelf>(alloc: Global, command: Command, shelf: &mut H) -> Result<
         } => make(alloc, width, device, lanes, options, table, raw, shelf),
         Command::Raw { image, .. } => raw(alloc, image, shelf),
         Command::Table { image, lane, .. } => table(alloc, image, lane, shelf),
+        Command::Draw { image, .. } => draw(alloc, image, shelf),
         Command::Unknown => Err(Stop::Usage),
     }
 }

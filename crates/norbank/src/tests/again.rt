@@ -6,8 +6,8 @@ use std::alloc::{AllocError, Global};
 use std::process::Abort;
 use std::test::Fail;
 
-// A bank, a script that is run on it, words and a second script on the bank that was saved, and the status and the text
-// with which they end.
+// A bank, a script that is run on it, words and a second script on the bank that was saved, and
+// the status and the text with which they end.
 type Row = (
     Bank,
     &'static [u8],
@@ -82,7 +82,8 @@ fn reply_of(report: &[u8], line: usize) -> &[u8] {
     text.rsplit(|byte| *byte == b'>').next().unwrap_or(b"")
 }
 
-// Power is lost after so many cycles of a lock of block 2 and a read of 21 bus words. What the lock was told holds.
+// Power is lost after so many cycles of a lock of block 2 and a read of 21 bus words. What the
+// lock was told holds.
 fn lock_and_cut(rt: &impl Abort, alloc: Global, cycles: u32) -> Result<(), AllocError> {
     let bank = file_of(alloc, FourOnes, &[])?;
     let script = format!(in alloc;

@@ -95,7 +95,8 @@ fn a_file_with_a_bad_field_is_told_at_its_place(rt: HostRuntime) -> Result<(), F
     Ok(())
 }
 
-// A byte of the table of the chip of set 0001, another there, and why probing refuses the bank then.
+// A byte of the table of the chip of set 0001, another there, and why probing refuses the bank
+// then.
 type BadTable = (usize, u8, &'static [u8]);
 
 const BAD_TABLES: [BadTable; 30] = [
@@ -139,7 +140,8 @@ const BAD_TABLES: [BadTable; 30] = [
     (0x35, 0xFF, b"probe: query at 0x35: version\n"),
 ];
 
-// A byte of the same table, another there, and the interface and the bytes of the buffer that are shown then.
+// A byte of the same table, another there, and the interface and the bytes of the buffer that are
+// shown then.
 const OTHER_TABLES: [(usize, u8, u16, u16); 8] = [
     (0x14, 0x00, 1, 32),
     (0x28, 0x00, 0, 32),

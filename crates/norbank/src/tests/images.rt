@@ -11,8 +11,8 @@ enum Cells {
     Zeros,
 }
 
-/// The banks of the tests. Chips have 8 KiB in eight blocks, and of sets 0001 and 0002 all that their set can
-/// offer but an erase of all blocks at once, where nothing else is said.
+/// The banks of the tests. Chips have 8 KiB in eight blocks, and of sets 0001 and 0002 all that
+/// their set can offer but an erase of all blocks at once, where nothing else is said.
 #[derive(Clone, Copy)]
 pub enum Bank {
     /// One chip of set 0001, whose cells rise, as all where nothing else is said.
@@ -53,8 +53,9 @@ pub enum Bank {
     OnePlainAmdInByteMode,
 }
 
-// The bus width, the device's code and the lanes, the tables, what the cells of lane 1 and of the others hold, how
-// long each chip erases, whether lane 1 is weak or stuck, and how many locks each chip keeps without power.
+// The bus width, the device's code and the lanes, the tables, what the cells of lane 1 and of the
+// others hold, how long each chip erases, whether lane 1 is weak or stuck, and how many locks
+// each chip keeps without power.
 #[derive(Clone, Copy)]
 struct Image {
     width: u8,

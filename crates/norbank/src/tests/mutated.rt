@@ -45,8 +45,8 @@ impl Draws {
     }
 }
 
-// Up to three bytes of the file become others, most of them before the cells of lane 0; one file of eight is cut
-// short, or goes on behind its end.
+// Up to three bytes of the file become others, most of them before the cells of lane 0; one file
+// of eight is cut short, or goes on behind its end.
 fn mutate_image(file: Vec<u8>, draws: &mut Draws) -> Result<Vec<u8>, AllocError> {
     let mut file = file;
     let len = u32::try_from(file.len()).unwrap_or(0);
@@ -72,7 +72,8 @@ fn mutate_image(file: Vec<u8>, draws: &mut Draws) -> Result<Vec<u8>, AllocError>
     Ok(file)
 }
 
-// A line of a form that is drawn, with numbers that are drawn. The first 14 forms may stand in a race.
+// A line of a form that is drawn, with numbers that are drawn. The first 14 forms may stand in a
+// race.
 fn push_line(
     alloc: Global,
     script: &mut Vec<u8>,
@@ -144,7 +145,8 @@ fn most_of_call(found: &Found, width: u8, word: &Word) -> u64 {
     }
 }
 
-// Runs the script on the bank: a bank that is found takes no more cycles than its lines may ask for.
+// Runs the script on the bank: a bank that is found takes no more cycles than its lines may ask
+// for.
 fn stays_within<W: BusWord, C: Chip + Drop>(
     rt: &impl Abort,
     alloc: Global,
@@ -170,7 +172,8 @@ fn stays_within<W: BusWord, C: Chip + Drop>(
     Ok(())
 }
 
-// A command ends with what was done, or with what is wrong with a file, and saves a bank only where it was run.
+// A command ends with what was done, or with what is wrong with a file, and saves a bank only
+// where it was run.
 fn ends_well<R: Abort + Threads + Wait + Sync>(
     rt: &R,
     alloc: Global,

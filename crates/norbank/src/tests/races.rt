@@ -259,8 +259,8 @@ fn callers_erase_beside_each_other(rt: HostRuntime) -> Result<(), Fail> {
 // Each chip was erased once, and its first two bytes of block 1 are 0.
 const PROGRAMMED: Bytes = &[(28, 1, 1), (1576, 2, 0), (8760, 1, 1), (10308, 2, 0)];
 
-// Holds caller 2 before its first line, which is the third, until caller 1 has opened its erase; and
-// caller 1 there, until caller 2 is past its last line.
+// Holds caller 2 before its first line, which is the third, until caller 1 has opened its erase;
+// and caller 1 there, until caller 2 is past its last line.
 #[derive(Drop)]
 struct Meeting {
     opened: AtomicU64,

@@ -1,5 +1,5 @@
-//! Scripts of erases in turns, locks, weak and stuck chips, and losses of power: the report of each, and what is
-//! saved.
+//! Scripts of erases in turns, locks, weak and stuck chips, and losses of power: the report of
+//! each, and what is saved.
 use super::images::Bank::{
     AllAtOnce, FourOnes, FourPlainAmd, OnePlain, OneWithLocks, OneX16, OnesInByteMode, StuckSecond,
     TopBoot, Unequal, WeakSecond, WeakZeros,
@@ -10,8 +10,8 @@ use std::alloc::{AllocError, Global};
 use std::process::Abort;
 use std::test::Fail;
 
-// A bank, a script, the status and the report with which it ends, and bytes of the saved file that were others
-// before.
+// A bank, a script, the status and the report with which it ends, and bytes of the saved file
+// that were others before.
 type Row = (Bank, &'static [u8], u8, &'static [u8], Bytes);
 
 const TURNS: [Row; 8] = [
@@ -149,7 +149,7 @@ const LOCKS: [Row; 9] = [
     ),
 ];
 
-const FAULTS: [Row; 4] = [
+const FAULTS: [Row; 5] = [
     // Lane 1 breaks off at its third word, which lane 0 has programmed.
     (
         WeakSecond,
@@ -180,9 +180,31 @@ const FAULTS: [Row; 4] = [
         b"0 0 cut 0 0xff -> done\n1 1 read 0x0 2 -> off 0\n2 1 read 0x2000 1 -> out-of-range\n3 0 reboot -> done\n4 1 read 0x0 2 -> 0001\n5 0 reboot -> nothing\nlane 0 suspends 0 erases 0\nhistory 6\n",
         &[],
     ),
+    // Erases, suspends, is cut and goes on: lane 0 has ended its erase when power is lost, and
+    // lane 1 hasn't.
+    (
+        Unequal,
+        b"# Caller 1 programs a block and erases it again.\n1 unlock 0\n2 unlock 1\n1 program 0x0 00112233\n1 open 0\n1 poll\n\n# Caller 2 goes on in the next block: the chips that are still at work are suspended, until the owner polls.\n2 program 0x800 0123456789abcdef\n2 read 0x7fe 4\n2 read 0x800 8\n2 open 1\n1 poll\n1 poll\n\n# Power is lost two bus cycles later, and the block under erase holds what a mask of 0x0f leaves of it.\ncut 2 0x0f\n1 poll\n2 read 0x800 8\nreboot\n\n# All blocks are locked again, and nothing is under erase. What was done outside the block stands.\n1 poll\n1 locked 0\n2 read 0x800 8\n2 read 0x0 4\n\n# The block is erased once more, to the end.\n1 unlock 0\n1 erase 0\n1 read 0x0 4\n",
+        6,
+        b"0 1 unlock 0 -> done\n1 2 unlock 1 -> done\n2 1 program 0x0 00112233 -> done\n3 1 open 0 -> opened\n4 1 poll -> not-yet\n5 2 program 0x800 0123456789abcdef -> done\n6 2 read 0x7fe 4 -> busy 0\n7 2 read 0x800 8 -> 0123456789abcdef\n8 2 open 1 -> occupied 0\n9 1 poll -> not-yet\n10 1 poll -> not-yet\n11 0 cut 2 0x0f -> done\n12 1 poll -> not-yet\n13 2 read 0x800 8 -> off 2\n14 0 reboot -> done\n15 1 poll -> nothing\n16 1 locked 0 -> yes\n17 2 read 0x800 8 -> 0123456789abcdef\n18 2 read 0x0 4 -> ffff2f3f\n19 1 unlock 0 -> done\n20 1 open 0 -> opened\n21 1 poll -> erased\n22 1 read 0x0 4 -> ffffffff\nlane 0 suspends 0 erases 2\nlane 1 suspends 1 erases 2\nhistory 23\n",
+        &[
+            (28, 1, 2),
+            (1576, 1, 0x01),
+            (1577, 1, 0x23),
+            (1578, 1, 0x89),
+            (1579, 1, 0xAB),
+            (8756, 1, 1),
+            (8760, 1, 2),
+            (10308, 1, 0x45),
+            (10309, 1, 0x67),
+            (10310, 1, 0xCD),
+            (10311, 1, 0xEF),
+        ],
+    ),
 ];
 
-// The same of a block that is left under erase, or that lost power under erase: of its bytes nothing is said.
+// The same of a block that is left under erase, or that lost power under erase: of its bytes
+// nothing is said.
 type Left = (Bank, &'static [u8], u8, &'static [u8]);
 
 const LEFT: [Left; 3] = [

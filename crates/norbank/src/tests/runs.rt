@@ -29,7 +29,8 @@ fn ends(
 // The cells of a bank's first lane begin at this place of its file of version 2.
 const CELLS: usize = 552;
 
-// A bank, a script, the report with which it is run, and bytes of the saved file that were others before.
+// A bank, a script, the report with which it is run, and bytes of the saved file that were others
+// before.
 type Row = (Bank, &'static [u8], &'static [u8], Bytes);
 
 const TWO_HALVES: &[u8] = b"1 program 0x0 f0\n1 program 0x0 0f\n1 read 0x0 1\n";
@@ -94,7 +95,8 @@ fn scripts_are_answered_and_banks_saved(rt: HostRuntime) -> Result<(), Fail> {
     Ok(())
 }
 
-// A bank, bytes of its file that are others, a script, and the status and the text with which it ends.
+// A bank, bytes of its file that are others, a script, and the status and the text with which it
+// ends.
 type Refused = (Bank, Bytes, &'static [u8], u8, &'static [u8]);
 
 const BAD_SCRIPTS: [Refused; 7] = [

@@ -3,7 +3,8 @@ use Rattle.nor_cell.specs.Bits.{unit_len}
 use Rattle.nor_cell.specs.Wiring.{bank_place}
 use Rattle.nor_bus.proofs.Sizes.{chip_size}
 use Rattle.nor_lane.proofs.Places.{bank_place_below}
-use Rattle.nor_dump.proofs.Sizes.{some_bytes, units_whole}
+use Rattle.nor_cell.proofs.Logic.{some_bytes}
+use Rattle.nor_dump.proofs.Sizes.{units_whole}
 use Rattle.nor_dump.proofs.lanes.lane_cells.Goals as goal
 
 pub bounds-raw-join : goal.bounds-raw-join
